@@ -1,0 +1,2 @@
+pub mod Ihdr
+pub mod Bpcc

@@ -1,0 +1,28 @@
+-- The bits of jp2_state: signature 1, file type 2, header 4, codestream 8.
+use Prim.Native.Nat.{ℕ, _+_, _*_, _/_, _%_}
+use Rattle.jp2_cio.specs.Table.{Test, _=?_, Rows, otherwise, _⇒_∣_, table}
+use Rattle.jp2_record.specs.declared.Jp2.{Jp2}
+use Rattle.jp2_record.specs.Record.{withState, withImgstate}
+
+abbrev pub signatureBit : Jp2 → ℕ
+signatureBit j = j .status .state % 2
+
+abbrev pub fileTypeBit : Jp2 → ℕ
+fileTypeBit j = j .status .state / 2 % 2
+
+abbrev pub headerBit : Jp2 → ℕ
+headerBit j = j .status .state / 4 % 2
+
+-- a state with the bit of weight w
+unfoldable pub withBit : ℕ → ℕ → ℕ
+withBit w state = table (state / w % 2 =? 0 ⇒ state + w ∣ otherwise state)
+
+-- JP2_STATE_UNKNOWN and JP2_IMG_STATE_UNKNOWN: all 31 low bits
+abbrev pub unknown : ℕ → ℕ
+unknown state = state / 2147483648 * 2147483648 + 2147483647
+
+abbrev pub withUnknown : Jp2 → Jp2
+withUnknown j = withState (unknown (j .status .state)) j
+
+abbrev pub withImgUnknown : Jp2 → Jp2
+withImgUnknown j = withImgstate (unknown (j .status .imgstate)) j

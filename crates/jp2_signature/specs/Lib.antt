@@ -1,0 +1,2 @@
+pub mod Signature
+pub mod FileType
