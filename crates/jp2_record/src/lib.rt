@@ -45,8 +45,8 @@ pub struct Span {
 // A palette that stays in the file: where its columns' widths start, and how many entries and columns it has. No columns: no palette.
 pub struct Palette {
     pub place: usize,
-    pub entries: usize,
-    pub columns: usize,
+    pub entries: u32,
+    pub columns: u32,
 }
 
 // The lists of the record; a count of 0 where there is none.

@@ -1,0 +1,3 @@
+pub mod Pclr
+pub mod Cmap
+pub mod Cdef

@@ -1,0 +1,121 @@
+// The palette box (I.5.3.4), the component mapping box (I.5.3.5) and the channel definition box (I.5.3.6).
+// Every reader of a box has this signature: the box's content, the place where the box starts, where its content starts, and the record before it.
+ghost use mathlib.Core.Path.{_≡_};
+ghost use Rattle.jp2_record.specs.Answer.{answer};
+ghost use Rattle.jp2_palette.specs.Pclr.{entryBytes, rowBytes, pclr};
+ghost use Rattle.jp2_palette.specs.Cmap.{cmap};
+ghost use Rattle.jp2_palette.specs.Cdef.{cdef};
+use jp2_record::Jp2;
+use jp2_record::Outcome;
+use jp2_record::Palette;
+use jp2_record::Span;
+
+// The bytes of an entry in a column whose depth and sign are b.
+pub fn entry_bytes(b: u8) -> usize
+    ensures { λ r. ⌜ r ≡ entryBytes b ⌝ }
+{
+    let filled = (b as usize % 128 + 8) / 8;
+    if filled < 4 { filled } else { 4 }
+}
+
+// The bytes that the first n columns of a row take; the columns' depths start at a place of s.
+pub fn row_bytes(s: &[u8], at: u32, n: u8) -> usize
+    ensures { λ r. ⌜ r ≡ rowBytes (now (s .entry)) at n ⌝ }
+{
+    let first = at as usize;
+    let columns = n as usize;
+    let mut sum: usize = 0;
+    let mut i: usize = 0;
+    while i < columns {
+        sum = sum + entry_bytes(jp2_cio::read_u8(s, first + i));
+        i = i + 1;
+    }
+    sum
+}
+
+pub fn opj_jp2_read_pclr(c: &[u8], place: u32, start: u32, j: Jp2) -> Outcome
+    ensures { λ r. ⌜ r ≡ answer j (pclr place start (now (c .entry)) j) ⌝ }
+{
+    let mut lists = j.lists;
+    if lists.pclr.columns != 0 {
+        return Outcome::refused(18, place, j);
+    }
+    if c.len() < 3 {
+        return Outcome::refused(20, place, j);
+    }
+    let entries = jp2_cio::read_u16(c, 0);
+    let columns = jp2_cio::read_u8(c, 2);
+    if entries == 0 {
+        return Outcome::refused(19, place, j);
+    }
+    if 1024 < entries {
+        return Outcome::refused(19, place, j);
+    }
+    if columns == 0 {
+        return Outcome::refused(19, place, j);
+    }
+    let row = row_bytes(c, 3, columns);
+    if c.len() < 3 + columns as usize + entries as usize * row {
+        return Outcome::refused(20, place, j);
+    }
+    let pclr = Palette {
+        place: start as usize + 3,
+        entries: entries as u32,
+        columns: columns as u32,
+    };
+    lists.pclr = pclr;
+    let mut k = j;
+    k.lists = lists;
+    Outcome::done(k)
+}
+
+pub fn opj_jp2_read_cmap(c: &[u8], place: u32, start: u32, j: Jp2) -> Outcome
+    ensures { λ r. ⌜ r ≡ answer j (cmap place start (now (c .entry)) j) ⌝ }
+{
+    let mut lists = j.lists;
+    let columns = lists.pclr.columns as usize;
+    if columns == 0 {
+        return Outcome::refused(21, place, j);
+    }
+    if lists.cmap.count != 0 {
+        return Outcome::refused(18, place, j);
+    }
+    if c.len() < 4 * columns {
+        return Outcome::refused(22, place, j);
+    }
+    let cmap = Span {
+        place: start as usize,
+        count: columns,
+    };
+    lists.cmap = cmap;
+    let mut k = j;
+    k.lists = lists;
+    Outcome::done(k)
+}
+
+pub fn opj_jp2_read_cdef(c: &[u8], place: u32, start: u32, j: Jp2) -> Outcome
+    ensures { λ r. ⌜ r ≡ answer j (cdef place start (now (c .entry)) j) ⌝ }
+{
+    let mut lists = j.lists;
+    if lists.cdef.count != 0 {
+        return Outcome::refused(18, place, j);
+    }
+    if c.len() < 2 {
+        return Outcome::refused(23, place, j);
+    }
+    let n = jp2_cio::read_u16(c, 0) as usize;
+    if n == 0 {
+        return Outcome::refused(24, place, j);
+    }
+    if c.len() < 2 + 6 * n {
+        return Outcome::refused(23, place, j);
+    }
+    let cdef = Span {
+        place: start as usize + 2,
+        count: n,
+    };
+    lists.cdef = cdef;
+    let mut k = j;
+    k.lists = lists;
+    Outcome::done(k)
+}
