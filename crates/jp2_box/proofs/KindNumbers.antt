@@ -71,3 +71,11 @@ not-file k = by-tag (0 ∷ 1 ∷ 5 ∷ 6 ∷ 7 ∷ 8 ∷ 9 ∷ 10 ∷ 11 ∷ 12 
 
 pub not-image : (k : Jp2BoxType) → OneOf (0 ∷ 1 ∷ 2 ∷ 3 ∷ 4 ∷ 7 ∷ 8 ∷ 12 ∷ 14 ∷ 15 ∷ 16 ∷ 17 ∷ 18 ∷ 19 ∷ 20 ∷ []) (tagOf the-type k) → false ≡ isImageHeader k
 not-image k = by-tag (0 ∷ 1 ∷ 2 ∷ 3 ∷ 4 ∷ 7 ∷ 8 ∷ 12 ∷ 14 ∷ 15 ∷ 16 ∷ 17 ∷ 18 ∷ 19 ∷ 20 ∷ []) isImageHeader k (elim k [ None ↦ tt | JPIP ↦ tt | JP ↦ tt | FTYP ↦ tt | JP2H ↦ tt | IHDR ↦ tt | COLR ↦ tt | JP2C ↦ tt | URL ↦ tt | PCLR ↦ tt | CMAP ↦ tt | CDEF ↦ tt | DTBL ↦ tt | BPCC ↦ tt | JP2 ↦ tt | RES ↦ tt | JP2I ↦ tt | XML ↦ tt | UUID ↦ tt | UINF ↦ tt | Unknown n ↦ tt ])
+
+-- a kind that was read from a number is the kind of that number
+pub is-kind : {n : ℕ} {k : Jp2BoxType} {l : Jp2BoxType} → k ≡ kindOf n → k ≡ l → n ≡ numberOf l
+is-kind {n} e f = sym (number-back n) ∙ ap numberOf (sym e ∙ f)
+
+-- a kind whose tag is not in a list is not the kind of a number whose tag is
+pub not-kind : (ks : List ℕ) (m : ℕ) {n : ℕ} {k : Jp2BoxType} → T (not (hasKey ks (tagOf the-type (kindOf m)))) → k ≡ kindOf n → OneOf ks (tagOf the-type k) → n ≡ m → ⊥
+not-kind ks m t e h f = miss ks (tagOf the-type (kindOf m)) t (subst (λ (l : Jp2BoxType). OneOf ks (tagOf the-type l)) (e ∙ ap kindOf f) h)

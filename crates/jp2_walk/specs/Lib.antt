@@ -1,0 +1,4 @@
+pub mod Split
+pub mod Child
+pub mod Jp2h
+pub mod Step
