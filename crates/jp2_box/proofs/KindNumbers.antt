@@ -79,3 +79,6 @@ is-kind {n} e f = sym (number-back n) ∙ ap numberOf (sym e ∙ f)
 -- a kind whose tag is not in a list is not the kind of a number whose tag is
 pub not-kind : (ks : List ℕ) (m : ℕ) {n : ℕ} {k : Jp2BoxType} → T (not (hasKey ks (tagOf the-type (kindOf m)))) → k ≡ kindOf n → OneOf ks (tagOf the-type k) → n ≡ m → ⊥
 not-kind ks m t e h f = miss ks (tagOf the-type (kindOf m)) t (subst (λ (l : Jp2BoxType). OneOf ks (tagOf the-type l)) (e ∙ ap kindOf f) h)
+
+pub proper-kind : (n : ℕ) {k : Jp2BoxType} → k ≡ kindOf n → k ≡ kindOf (numberOf k)
+proper-kind n e = e ∙ ap kindOf (sym (number-back n) ∙ ap numberOf (sym e))

@@ -23,7 +23,7 @@ Says false (s or t) = Says false s × Says false t
 Says true (s and t) = Says true s × Says true t
 Says false (s and t) = Says true s → Says false t
 
-true-false : {X : Type 0} → true ≡ false → X
+pub true-false : {X : Type 0} → true ≡ false → X
 true-false e = let z : _≡_ {A = ℕ} 0 1 = cc in absurd (omega arith)
 
 not-both : (t : Test) → Says true t → Says false t → ⊥

@@ -16,6 +16,7 @@ use Rattle.jp2_record.specs.declared.Jp2.{Jp2}
 use Rattle.jp2_record.specs.declared.Answer.{Answer}
 use Rattle.jp2_record.specs.declared.Answer.the-variants.{Done, Refused}
 use Rattle.jp2_record.specs.Answer.{Result, accepted, refused, answer, andThen}
+use Rattle.jp2_record.proofs.Told.{answer-done, answer-refused}
 use Rattle.jp2_walk.specs.declared.Step.{Step}
 use Rattle.jp2_walk.specs.Split.{Boxes, _▸_, firstBox, split, boxes}
 use Rattle.jp2_walk.specs.Child.{child}
@@ -24,17 +25,6 @@ use Rattle.jp2_record.specs.Record.{withImgstate}
 use Rattle.jp2_record.specs.State.{fileTypeBit}
 use Rattle.jp2_walk.specs.Step.{fault, readBox, step}
 use Rattle.jp2_walk.proofs.Faults.{sound, split-none, split-fault, split-more}
-
--- an answer tells its result
-answer-done : (k : Jp2) (x : Result) → answer k x .answer ≡ Done → x ≡ accepted (answer k x .jp2)
-unfolding answer
-answer-done k (accepted j) e = refl
-answer-done k (refused n p) e = let z : _≡_ {A = ℕ} 0 1 = cc in absurd (omega arith)
-
-answer-refused : (k : Jp2) (x : Result) {n p : ℕ} → answer k x .answer ≡ Refused n p → x ≡ refused n p
-unfolding answer
-answer-refused k (accepted j) e = let z : _≡_ {A = ℕ} 0 1 = cc in absurd (omega arith)
-answer-refused k (refused n p) e = cc
 
 -- what one turn tells, where its child was read
 pub record Read (at : ℕ) (c : List ℕ) (lacks : Bool) (k : Jp2) (t : Step) : Type 0 where
@@ -66,15 +56,13 @@ module _ (at : ℕ) (c : List ℕ) (lacks : Bool) (k : Jp2) where
       ok : fault c ≡ 0 → Read at c lacks k t
       ok f =
           let s : t ≡ readBox at c lacks k = e ∙ step-found f in
-          let a : answer k (child (firstBox at c) k) .answer ≡ Done = cc in
-          let x = answer-done k (child (firstBox at c) k) a in
+          let x = answer-done k (child (firstBox at c) k) {o = t .outcome} (cc) d in
           record { sound = f; read = cc; size = cc; saw = cc }
 
       no : (fault c ≡ 0 → ⊥) → Read at c lacks k t
       no f =
           let s : t ≡ record { outcome = answer k (refused (fault c) at); size = 0; lacks = lacks } = e ∙ step-broken f in
-          let a : answer k (refused (fault c) at) .answer ≡ Done = cc in
-          let x = answer-done k (refused (fault c) at) a in
+          let x = answer-done k (refused (fault c) at) {o = t .outcome} (cc) d in
           let z : _≡_ {A = ℕ} 0 1 = cc in
           absurd (omega arith)
 
@@ -85,14 +73,12 @@ module _ (at : ℕ) (c : List ℕ) (lacks : Bool) (k : Jp2) where
       ok : fault c ≡ 0 → readAll (split (suc f) at c) k ≡ refused n p
       ok z =
           let s : t ≡ readBox at c lacks k = e ∙ step-found z in
-          let a : answer k (child (firstBox at c) k) .answer ≡ Refused n p = cc in
-          rw (split-more at c f h z, answer-refused k (child (firstBox at c) k) a)
+          rw (split-more at c f h z, answer-refused k (child (firstBox at c) k) {o = t .outcome} (cc) d)
 
       no : (fault c ≡ 0 → ⊥) → readAll (split (suc f) at c) k ≡ refused n p
       no z =
           let s : t ≡ record { outcome = answer k (refused (fault c) at); size = 0; lacks = lacks } = e ∙ step-broken z in
-          let a : answer k (refused (fault c) at) .answer ≡ Refused n p = cc in
-          split-fault at c f k h z ∙ answer-refused k (refused (fault c) at) a
+          split-fault at c f k h z ∙ answer-refused k (refused (fault c) at) {o = t .outcome} (cc) d
 
 and-swap : (a b d : Bool) → ((a && b) && d) ≡ (b && (a && d))
 and-swap false true d = refl

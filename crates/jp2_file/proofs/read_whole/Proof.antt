@@ -1,0 +1,62 @@
+-- `jp2_file::read_whole` meets its contract.
+-- Assumes nothing.
+use Rattle.jp2_record.specs.Answer.{answer}
+use Rattle.jp2_walk.specs.Split.{Box, firstBox}
+use Rattle.jp2_file.proofs.Turns.{whole-box, went, went-not}
+use native.Mathlib.Omega.{arith}
+use Prim.Native.Nat.{ℕ}
+use mathlib.Core.Path.{_≡_, refl, sym, ap, _∙_}
+use lib.ListN.{length}
+use Rattle.jp2_box.specs.Box.{TBox}
+use Rattle.jp2_cio.proofs.Numbers.{part-most}
+use Rattle.jp2_box.specs.Kind.{numberOf}
+use Rattle.jp2_box.proofs.KindNumbers.{is-kind, proper-kind}
+use Rattle.jp2_file.specs.File.{outer}
+use borrow.Author.Needs.{needs}
+use Rattle.jp2_file.proofs.read_whole.Statement.{statement}
+use Rattle.jp2_file.proofs.read_whole.Tie as tie
+
+cast-part : tie.Need-cast-part
+cast-part c = search needs
+
+cast-part-2 : tie.Need-cast-part-2
+cast-part-2 c = search needs
+
+part-requires : tie.Need-part-requires
+part-requires c κs = search needs
+
+add-start : tie.Need-add-start
+add-start c = let p = c .before .before .before .before .before .pre in omega (arith, p .head, p .least, p .most, p .room)
+
+read-outer-requires : tie.Need-read-outer-requires
+read-outer-requires c κs = let a = c .before .before .before .before .before .args in let p = c .before .before .before .before .before .pre in (proper-kind (TBox (a .c .now)) (p .ty), rw (c .before .part .ensures) (omega (arith, part-most (a .c .now) (a .h .«header_length») (a .h .length), p .head, p .long, p .least, p .most, p .room)))
+
+enum-known-answer : tie.Need-enum-known-answer
+enum-known-answer c = search needs
+
+turned-down-requires : tie.Need-turned-down-requires
+turned-down-requires c κs = search needs
+
+returns : tie.Need-returns
+returns c = let a = c .before .before .before .before .before .before .before .before .before .before .args in let p = c .before .before .before .before .before .before .before .before .before .before .pre in went-not (a .h .length) (a .k) (outer (firstBox (a .at) (a .c .now)) (a .k)) (c .before .before .before .before .read-outer .ensures ∙ (ap (λ (x : Box). answer (a .k) (outer x (a .k))) (whole-box p (c .before .before .before .before .before .before .part .ensures)))) (c .before .before .answer .given .1) (c .turned-down .ensures)
+
+enum-told : tie.Need-enum-told
+enum-told c = search needs
+
+returns-2 : tie.Need-returns-2
+returns-2 c = let a = c .before .before .before .before .before .before .before .before .before .args in let p = c .before .before .before .before .before .before .before .before .before .pre in went (a .h .length) (a .k) (outer (firstBox (a .at) (a .c .now)) (a .k)) (c .before .before .before .read-outer .ensures ∙ (ap (λ (x : Box). answer (a .k) (outer x (a .k))) (whole-box p (c .before .before .before .before .before .part .ensures)))) (c .before .enum-told .given .1)
+
+pub read-whole-spec : {M : Type 1} → statement M
+read-whole-spec =
+    tie.close
+    (tie.spec
+    cast-part
+    cast-part-2
+    part-requires
+    add-start
+    read-outer-requires
+    enum-known-answer
+    turned-down-requires
+    returns
+    enum-told
+    returns-2)

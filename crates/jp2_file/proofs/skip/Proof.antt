@@ -1,0 +1,19 @@
+-- `jp2_file::skip` meets its contract.
+-- Assumes nothing.
+use native.Mathlib.Omega.{arith}
+use Rattle.jp2_record.proofs.Told.{success}
+use borrow.Author.Needs.{needs}
+use Rattle.jp2_file.proofs.skip.Statement.{statement}
+use Rattle.jp2_file.proofs.skip.Tie as tie
+
+with-unknown-requires : tie.Need-with-unknown-requires
+with-unknown-requires c κs = search needs
+
+done-requires : tie.Need-done-requires
+done-requires c κs = search needs
+
+returns : tie.Need-returns
+returns c = success _ _ _ (c .done .ensures) (cc)
+
+pub skip-spec : {M : Type 1} → statement M
+skip-spec = tie.close (tie.spec with-unknown-requires done-requires returns)

@@ -1,0 +1,264 @@
+// The walk through a file (I.2.2): its boxes, one after the other, up to the codestream.
+ghost use Prim.Native.Nat.{_+_, _≤_};
+ghost use mathlib.Core.Path.{_≡_};
+ghost use lib.ListN.{length};
+ghost use Rattle.jp2_box.specs.Kind.{kindOf, numberOf};
+ghost use Rattle.jp2_record.specs.Record.{blank};
+ghost use Rattle.jp2_record.specs.State.{withBit, unknown, withUnknown};
+ghost use Rattle.jp2_record.specs.Answer.{accepted, answer};
+ghost use Rattle.jp2_file.specs.File.{ended, turnedDown, stream, other, outer, walk, read, reading};
+ghost use Rattle.jp2_file.specs.Turn.{box, boxAt, inner, pastKind, Heads, stops, goesOn, turn};
+ghost use Rattle.jp2_walk.specs.Split.{firstBox};
+use jp2_box::Jp2BoxHeader;
+use jp2_box::Jp2BoxType;
+use jp2_box::ReadHeader;
+use jp2_record::Answer;
+use jp2_record::Jp2;
+use jp2_record::Outcome;
+
+// What reading a file answers: the codestream's offset, "ended", or document 01's number and the place.
+pub enum FileAnswer {
+    Codestream(u32),
+    Ended,
+    Refused(u32, u32),
+}
+
+// An answer and the record after it.
+pub struct Reading {
+    pub answer: FileAnswer,
+    pub jp2: Jp2,
+}
+
+// One turn of the walk: a box that took so many bytes, the codestream at its offset, the end, or a refusal.
+pub enum Step {
+    Next(u32),
+    Reached(u32),
+    Over,
+    TurnedDown(u32, u32),
+}
+
+// A turn and the record after it.
+pub struct Turn {
+    pub step: Step,
+    pub jp2: Jp2,
+}
+
+fn turned_down(number: u32, place: u32, k: Jp2) -> Turn
+    ensures { λ r. ⌜ r ≡ stops k (turnedDown number place) ⌝ }
+{
+    Turn {
+        step: Step::TurnedDown(number, place),
+        jp2: k,
+    }
+}
+
+fn over(k: Jp2) -> Turn
+    ensures { λ r. ⌜ r ≡ stops k (ended k) ⌝ }
+{
+    Turn {
+        step: Step::Over,
+        jp2: k,
+    }
+}
+
+// A state with all 31 low bits.
+fn with_unknown(state: u32) -> u32
+    ensures { λ r. ⌜ r ≡ unknown state ⌝ }
+{
+    state / 2147483648 * 2147483648 + 2147483647
+}
+
+// A state with the codestream bit.
+fn with_stream(state: u32) -> u32
+    ensures { λ r. ⌜ r ≡ withBit 8 state ⌝ }
+{
+    if state / 8 % 2 == 0 {
+        return state + 8;
+    }
+    state
+}
+
+// The codestream box, whose content starts at start.
+fn read_stream(at: u32, start: u32, k: Jp2) -> Turn
+    ensures { λ r. ⌜ r ≡ stops k (stream (boxAt at start) k) ⌝ }
+{
+    let mut status = k.status;
+    if status.state / 4 % 2 == 0 {
+        return turned_down(2, at, k);
+    }
+    status.state = with_stream(status.state);
+    let mut m = k;
+    m.status = status;
+    Turn {
+        step: Step::Reached(start),
+        jp2: m,
+    }
+}
+
+// The record once a box was skipped.
+fn skip(k: Jp2) -> Outcome
+    ensures { λ r. ⌜ r ≡ answer k (accepted (withUnknown k)) ⌝ }
+{
+    let mut status = k.status;
+    status.state = with_unknown(status.state);
+    let mut m = k;
+    m.status = status;
+    Outcome::done(m)
+}
+
+// A box that is not read: it is skipped once signature and file type have come.
+fn read_other(at: u32, start: u32, k: Jp2) -> Outcome
+    ensures { λ r. ⌜ r ≡ answer k (other (boxAt at start) k) ⌝ }
+{
+    let status = k.status;
+    if status.state % 2 == 0 {
+        return Outcome::refused(5, at, k);
+    }
+    if status.state / 2 % 2 == 0 {
+        return Outcome::refused(6, at, k);
+    }
+    skip(k)
+}
+
+// A box of the file other than jP, ftyp and jp2h.
+fn read_inner(ty: Jp2BoxType, c: &[u8], at: u32, start: u32, k: Jp2) -> Outcome
+    ensures { λ r. ⌜ r ≡ answer k (inner ty at start (now (c .entry)) k) ⌝ }
+{
+    if ty.is_image_header() {
+        let status = k.status;
+        if status.state / 4 % 2 == 0 {
+            return skip(k);
+        }
+        return jp2_walk::read_content(ty, c, at, start, k);
+    }
+    read_other(at, start, k)
+}
+
+// The content of a box of the file, by the reader of its kind.
+fn read_outer(ty: Jp2BoxType, c: &[u8], at: u32, start: u32, k: Jp2) -> Outcome
+    requires { ⌜ (ty ≡ kindOf (numberOf ty)) × (start + length (now c) ≤ 4294967295) ⌝ }
+    ensures { λ r. ⌜ r ≡ answer k (outer (box (numberOf ty) at start (now (c .entry))) k) ⌝ }
+{
+    match ty {
+        Jp2BoxType::JP => jp2_signature::opj_jp2_read_jp(c, at, start, k),
+        Jp2BoxType::FTYP => jp2_signature::opj_jp2_read_ftyp(c, at, start, k),
+        Jp2BoxType::JP2H => jp2_walk::opj_jp2_read_jp2h(c, at, start, k),
+        _ => read_inner(ty, c, at, start, k),
+    }
+}
+
+// A box that reaches past the end.
+fn read_past(ty: Jp2BoxType, at: u32, k: Jp2) -> Turn
+    ensures { λ r. ⌜ r ≡ stops k (pastKind ty at k) ⌝ }
+{
+    if ty.is_file_header() {
+        return turned_down(4, at, k);
+    }
+    if ty.is_image_header() {
+        return turned_down(4, at, k);
+    }
+    let outcome = read_other(at, 0, k);
+    let answer = outcome.answer;
+    if let Answer::Refused(n, p) = answer {
+        return turned_down(n, p, k);
+    }
+    over(outcome.jp2)
+}
+
+// A box that lies in the file.
+fn read_whole(c: &[u8], at: u32, h: Jp2BoxHeader, k: Jp2) -> Turn
+    requires { ⌜ Heads at (now c) h ⌝ }
+    ensures { λ r. ⌜ r ≡ goesOn (h .length) k (outer (firstBox at (now (c .entry))) k) ⌝ }
+{
+    let content = jp2_cio::part(c, h.header_length as usize, h.length as usize);
+    let start = at + h.header_length;
+    let ty = h.ty;
+    let outcome = read_outer(ty, content, at, start, k);
+    let answer = outcome.answer;
+    if let Answer::Refused(n, p) = answer {
+        return turned_down(n, p, k);
+    }
+    let m = outcome.jp2;
+    Turn {
+        step: Step::Next(h.length),
+        jp2: m,
+    }
+}
+
+// The box that starts at c's first byte, which is at a place of the file.
+fn read_turn(c: &[u8], at: u32, k: Jp2) -> Turn
+    requires { ⌜ at + length (now c) ≤ 4294967295 ⌝ }
+    ensures { λ r. ⌜ r ≡ turn at (now (c .entry)) k ⌝ }
+{
+    let ReadHeader::Header(h) = Jp2BoxHeader::from_stream(c) else {
+        return over(k);
+    };
+    let ty = h.ty;
+    if let Jp2BoxType::JP2C = ty {
+        return read_stream(at, at + h.header_length, k);
+    }
+    if h.length < h.header_length {
+        return turned_down(3, at, k);
+    }
+    if c.len() < h.length as usize {
+        return read_past(ty, at, k);
+    }
+    read_whole(c, at, h, k)
+}
+
+// A file, read from a record on.
+pub fn opj_jp2_read_header_procedure(s: &[u8], j: Jp2) -> Reading
+    ensures { λ r. ⌜ r ≡ reading j (walk (now (s .entry)) j) ⌝ }
+{
+    if 4294967295 < s.len() {
+        return Reading {
+            answer: FileAnswer::Refused(1, 0),
+            jp2: j,
+        };
+    }
+    let mut k = j;
+    let mut rest = s;
+    let mut at: u32 = 0;
+    while 0 < rest.len() {
+        let turn = read_turn(rest, at, k);
+        let step = turn.step;
+        let m = turn.jp2;
+        match step {
+            Step::Next(n) => {
+                let size = n as usize;
+                rest = &rest[size..];
+                at = at + n;
+                k = m;
+            }
+            Step::Reached(offset) => {
+                return Reading {
+                    answer: FileAnswer::Codestream(offset),
+                    jp2: m,
+                };
+            }
+            Step::Over => {
+                return Reading {
+                    answer: FileAnswer::Ended,
+                    jp2: m,
+                };
+            }
+            Step::TurnedDown(n, p) => {
+                return Reading {
+                    answer: FileAnswer::Refused(n, p),
+                    jp2: j,
+                };
+            }
+        }
+    }
+    Reading {
+        answer: FileAnswer::Ended,
+        jp2: k,
+    }
+}
+
+// A file, read from the record before any box.
+pub fn read_file(s: &[u8]) -> Reading
+    ensures { λ r. ⌜ r ≡ reading blank (read (now (s .entry))) ⌝ }
+{
+    opj_jp2_read_header_procedure(s, jp2_record::opj_jp2_create())
+}
