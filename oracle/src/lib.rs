@@ -1,0 +1,86 @@
+//! The JP2 layer of the crate openjp2 0.6.1, unmodified and callable, to compare a port with.
+//!
+//! The crate's own eight files are compiled from the folder that `OPENJP2_SRC` names while this library is built.
+//! The modules that are not there have stand-ins under `standins/`: types, and functions that succeed and do nothing.
+//! Above them stands a small safe interface:
+//!
+//! - [`read`]: what `opj_jp2_read_header_procedure` makes of a file;
+//! - [`finish`]: what `opj_jp2_apply_color_postprocessing` makes of a picture, with the record from reading;
+//! - [`write`]: the bytes that the encoder's JP2 part puts before a codestream;
+//! - [`leaves`]: box kinds, box headers and numbers of 1 to 4 bytes, each by itself;
+//! - [`bare`]: the same runs with nothing listening and nothing copied out, for taking the time.
+//!
+//! A panic inside the crate is an answer, [`Outcome::Panic`], and prints nothing.
+
+// `jp2.rs` says `alloc::` for the standard library's part of that name.
+extern crate alloc;
+
+// The crate's own files. `event_msg!` is defined in the first and used in the others.
+#[macro_use]
+#[allow(warnings)]
+mod event {
+    include!(concat!(env!("OPENJP2_SRC"), "/event.rs"));
+}
+#[allow(warnings)]
+mod cio {
+    include!(concat!(env!("OPENJP2_SRC"), "/cio.rs"));
+}
+#[allow(warnings)]
+mod consts {
+    include!(concat!(env!("OPENJP2_SRC"), "/consts.rs"));
+}
+#[allow(warnings)]
+mod image {
+    include!(concat!(env!("OPENJP2_SRC"), "/image.rs"));
+}
+#[allow(warnings)]
+mod jp2 {
+    include!(concat!(env!("OPENJP2_SRC"), "/jp2.rs"));
+
+    // Inside, because most of what is asked is private to this module.
+    #[warn(warnings)]
+    pub(crate) mod reach;
+}
+#[allow(warnings)]
+mod malloc {
+    include!(concat!(env!("OPENJP2_SRC"), "/malloc.rs"));
+}
+#[allow(warnings)]
+mod stream {
+    include!(concat!(env!("OPENJP2_SRC"), "/stream.rs"));
+}
+#[allow(warnings)]
+mod types {
+    include!(concat!(env!("OPENJP2_SRC"), "/types.rs"));
+}
+
+// The stand-ins.
+#[path = "standins/c_api_types.rs"]
+mod c_api_types;
+#[path = "standins/function_list.rs"]
+mod function_list;
+#[path = "standins/j2k.rs"]
+mod j2k;
+#[path = "standins/math.rs"]
+mod math;
+#[path = "standins/openjpeg.rs"]
+mod openjpeg;
+
+// The interface.
+mod asking;
+pub mod bare;
+mod finishing;
+pub mod leaves;
+mod memory;
+mod picture;
+mod reading;
+mod record;
+mod refusal;
+mod writing;
+
+pub use asking::{Level, Message, Outcome};
+pub use finishing::{finish, Finishing};
+pub use picture::{Component, Plane, Props, Unaskable, NO_DATA};
+pub use reading::{read, Reading};
+pub use record::{Definition, Mapping, Palette, Profile, Record};
+pub use writing::{write, Step, Writing, WritingRequest};
