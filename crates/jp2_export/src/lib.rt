@@ -1,0 +1,120 @@
+// What callers from C and Rust reach: plain lists and numbers.
+ghost use mathlib.Core.Path.{_≡_};
+ghost use lib.ListN.{getD};
+ghost use Rattle.jp2_record.specs.Record.{blank};
+ghost use Rattle.jp2_file.specs.File.{read, reading};
+ghost use Rattle.jp2_export.specs.Numbers.{kind, value, place, numbers, given, filled};
+use jp2_file::FileAnswer;
+use jp2_file::Reading;
+
+// 0 for the codestream, 1 for "ended", 2 for a refusal.
+fn answer_kind(a: FileAnswer) -> u32
+    ensures { λ r. ⌜ r ≡ kind a ⌝ }
+{
+    match a {
+        FileAnswer::Codestream(_) => 0,
+        FileAnswer::Ended => 1,
+        FileAnswer::Refused(_, _) => 2,
+    }
+}
+
+// The codestream's offset, or the number of a refusal.
+fn answer_value(a: FileAnswer) -> u32
+    ensures { λ r. ⌜ r ≡ value a ⌝ }
+{
+    match a {
+        FileAnswer::Codestream(offset) => offset,
+        FileAnswer::Ended => 0,
+        FileAnswer::Refused(number, _) => number,
+    }
+}
+
+// The place of a refusal.
+fn answer_place(a: FileAnswer) -> u32
+    ensures { λ r. ⌜ r ≡ place a ⌝ }
+{
+    match a {
+        FileAnswer::Codestream(_) => 0,
+        FileAnswer::Ended => 0,
+        FileAnswer::Refused(_, p) => p,
+    }
+}
+
+fn wide(x: u32) -> u64
+    ensures { λ r. ⌜ r ≡ x ⌝ }
+{
+    x as u64
+}
+
+// Number i of a reading; 0 past the last.
+pub fn number_of(r: Reading, i: usize) -> u64
+    ensures { λ n. ⌜ n ≡ getD (numbers r) i 0 ⌝ }
+{
+    let answer = r.answer;
+    let j = r.jp2;
+    let lab = j.colour.lab.numbers;
+    match i {
+        0 => answer_kind(answer) as u64,
+        1 => answer_value(answer) as u64,
+        2 => answer_place(answer) as u64,
+        3 => j.image.h as u64,
+        4 => j.image.w as u64,
+        5 => j.image.numcomps as u64,
+        6 => j.image.bpc as u64,
+        7 => j.image.c as u64,
+        8 => j.image.unkc as u64,
+        9 => j.image.ipr as u64,
+        10 => j.colour.meth as u64,
+        11 => j.colour.precedence as u64,
+        12 => j.colour.approx as u64,
+        13 => j.colour.enumcs as u64,
+        14 => wide(lab[0]),
+        15 => wide(lab[1]),
+        16 => wide(lab[2]),
+        17 => wide(lab[3]),
+        18 => wide(lab[4]),
+        19 => wide(lab[5]),
+        20 => wide(lab[6]),
+        21 => wide(lab[7]),
+        22 => wide(lab[8]),
+        23 => j.colour.lab.count as u64,
+        24 => j.colour.held as u64,
+        25 => j.filetype.brand as u64,
+        26 => j.filetype.minversion as u64,
+        27 => j.lists.cl.place as u64,
+        28 => j.lists.cl.count as u64,
+        29 => j.lists.bpcc.place as u64,
+        30 => j.lists.bpcc.count as u64,
+        31 => j.lists.icc.place as u64,
+        32 => j.lists.icc.count as u64,
+        33 => j.lists.pclr.place as u64,
+        34 => j.lists.pclr.entries as u64,
+        35 => j.lists.pclr.columns as u64,
+        36 => j.lists.cmap.place as u64,
+        37 => j.lists.cmap.count as u64,
+        38 => j.lists.cdef.place as u64,
+        39 => j.lists.cdef.count as u64,
+        40 => j.status.state as u64,
+        41 => j.status.imgstate as u64,
+        42 => j.status.hasjp2h as u64,
+        43 => j.status.hasihdr as u64,
+        _ => 0,
+    }
+}
+
+// Reads a file and gives the 44 numbers of its reading to out: how many were given, 0 where out is shorter.
+#[no_mangle]
+pub extern "C" fn cuzhantir_read(file: &[u8], out: &mut [u64]) -> u32
+    ensures { λ r. ⌜ (r ≡ given (now (out .entry))) × (now (out .exit) ≡ filled (now (out .entry)) (reading blank (read (now (file .entry))))) ⌝ }
+{
+    if out.len() < 44 {
+        return 0;
+    }
+    let r = jp2_file::read_file(file);
+    let mut i = 0;
+    while i < 44 {
+        out[i] = number_of(r, i);
+        i += 1;
+    }
+    44
+}
