@@ -8,7 +8,9 @@
 //! - [`finish`]: what `opj_jp2_apply_color_postprocessing` makes of a picture, with the record from reading;
 //! - [`write`]: the bytes that the encoder's JP2 part puts before a codestream;
 //! - [`leaves`]: box kinds, box headers and numbers of 1 to 4 bytes, each by itself;
-//! - [`bare`]: the same runs with nothing listening and nothing copied out, for taking the time.
+//! - [`bare`]: the same runs with nothing listening and nothing copied out, for taking the time;
+//! - [`generate`]: files to read, from a seed;
+//! - [`numbers`]: what reading answers as a row of numbers, in the order that the port gives them.
 //!
 //! A panic inside the crate is an answer, [`Outcome::Panic`], and prints nothing.
 
@@ -70,12 +72,16 @@ mod openjpeg;
 mod asking;
 pub mod bare;
 mod finishing;
+pub mod generate;
 pub mod leaves;
 mod memory;
+pub mod numbers;
 mod picture;
+mod places;
 mod reading;
 mod record;
 mod refusal;
+mod walk;
 mod writing;
 
 pub use asking::{Level, Message, Outcome};

@@ -10,6 +10,7 @@ use crate::event::opj_event_mgr;
 use crate::jp2::{reach, Jp2BoxHeader};
 use crate::reading::{read_bare, Reading};
 use crate::record::Record;
+use crate::walk::Walk;
 
 /// Whether a walk that succeeded with the stream at `tell` found a codestream. The state bits cannot say, because an
 /// unknown box sets them all.
@@ -93,29 +94,6 @@ fn silent_number(kind: Jp2BoxType, record: &Record) -> Option<u32> {
         Jp2BoxType::PCLR => Some(20),
         Jp2BoxType::CDEF => Some(18),
         _ => None,
-    }
-}
-
-/// A box and where its header starts, found by the crate's own `Jp2BoxHeader::read`.
-#[derive(Clone, Copy)]
-struct Walk {
-    place: usize,
-    header: Jp2BoxHeader,
-}
-
-impl Walk {
-    fn at(file: &[u8], place: usize) -> Option<Walk> {
-        let mut rest = file.get(place..)?;
-        let header = reach::read_box_header(&mut rest, file.len() - place).ok()?;
-        Some(Walk { place, header })
-    }
-
-    fn content(&self) -> usize {
-        self.place + self.header.header_length as usize
-    }
-
-    fn end(&self) -> usize {
-        self.place + self.header.length as usize
     }
 }
 

@@ -18,7 +18,7 @@ part s start end = take (end - start) (drop start s)
 abbrev pub least : ℕ → ℕ → ℕ
 least m n = table (m <? n ⇒ m ∣ otherwise n)
 
--- the given count of bytes of a number, from the lowest up
+-- the given count of bytes of a number, the highest first: the lowest stands last
 unfoldable pub bytes : ℕ → ℕ → List ℕ
 bytes zero v = []
 bytes (suc n) v = bytes n (v / 256) ++ (v % 256 ∷ [])
@@ -27,7 +27,7 @@ bytes (suc n) v = bytes n (v / 256) ++ (v % 256 ∷ [])
 unfoldable pub placed : List ℕ → ℕ → List ℕ → List ℕ
 placed d at xs = take at d ++ xs ++ drop (at + length xs) d
 
--- there is no room for a number of n bytes at a place of d, or n is no width of a number
+-- a number has at most 4 bytes, and they have to lie in d; of 0 bytes nothing is written, which always has room inside d
 abbrev pub noRoom : List ℕ → ℕ → ℕ → Test
 noRoom d at n = 4 <? n or length d <? at + n
 

@@ -64,7 +64,7 @@ pub fn opj_read_bytes(s: &[u8], at: usize, nb: usize) -> u32
     }
 }
 
-// The low nb bytes of value, 1 to 4, to a place of d; whether they had room there.
+// The low nb bytes of value, at most 4, to a place of d; whether they had room there.
 pub fn opj_write_bytes(d: &mut [u8], at: usize, value: u32, nb: usize) -> bool
     ensures { λ r. ⌜ (r ≡ fits (now (d .entry)) at nb) × (now (d .exit) ≡ written (now (d .entry)) at nb value) ⌝ }
 {

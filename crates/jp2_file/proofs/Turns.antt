@@ -23,12 +23,13 @@ use Rattle.jp2_record.specs.declared.Answer.the-variants.{Done, Refused}
 use Rattle.jp2_record.specs.Answer.{Result, accepted, refused, answer}
 use Rattle.jp2_record.proofs.Told.{answer-done, answer-refused}
 use Rattle.jp2_walk.specs.Split.{Boxes, firstBox, split}
+use Rattle.jp2_walk.specs.Step.{Heads}
 use Rattle.jp2_walk.proofs.Faults.{split-none}
 use Rattle.jp2_file.specs.declared.Turn.{Turn}
 use Rattle.jp2_file.specs.declared.Step.{Step}
 use Rattle.jp2_file.specs.declared.Step.the-variants.{Next, Reached, Over, TurnedDown}
 use Rattle.jp2_file.specs.File.{Walked, codestream, ended, turnedDown, thenWalk, stream, pastEnd, outer, run}
-use Rattle.jp2_file.specs.Turn.{box, inner, Heads, stops, goesOn, turn}
+use Rattle.jp2_file.specs.Turn.{box, inner, stops, goesOn, turn}
 
 -- an end of the walk is what its definition says
 pub stop : (k : Jp2) (w v : Walked) {t : Turn} → t ≡ stops k w → w ≡ v → t ≡ stops k v

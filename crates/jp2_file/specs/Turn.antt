@@ -1,13 +1,11 @@
 -- What the loop's body answers, for its own functions: one turn of `split` and `run`.
-use Prim.Native.Nat.{ℕ, _+_, _≤_}
-use mathlib.Core.Path.{_≡_}
+use Prim.Native.Nat.{ℕ}
 use mathlib.Core.List.{List, []}
 use lib.ListN.{length}
 use Rattle.jp2_cio.specs.Table.{Test, _=?_, _<?_, flag, _or_, _and_, Rows, otherwise, _⇒_∣_, table}
-use Rattle.jp2_box.specs.Kind.{kindOf, isFileHeader, isImageHeader}
-use Rattle.jp2_box.specs.Box.{TBox, headerLength, boxLength}
+use Rattle.jp2_box.specs.Kind.{isFileHeader, isImageHeader}
+use Rattle.jp2_box.specs.Box.{headerLength, boxLength}
 use Rattle.jp2_box.specs.declared.consts.Jp2BoxType.{Jp2BoxType}
-use Rattle.jp2_box.specs.declared.header.Jp2BoxHeader.{Jp2BoxHeader}
 use Rattle.jp2_record.specs.declared.Jp2.{Jp2}
 use Rattle.jp2_record.specs.State.{headerBit, withUnknown}
 use Rattle.jp2_record.specs.Answer.{Result, accepted, refused}
@@ -38,15 +36,6 @@ pastKind kind place k =
     table
     (flag (isFileHeader kind) or flag (isImageHeader kind) ⇒ turnedDown 4 place
     ∣ otherwise (thenWalk (other (boxAt place 0) k) ended))
-
--- a header that was read from c, whose box lies in it, within 32 bits from a place on
-pub record Heads (at : ℕ) (c : List ℕ) (h : Jp2BoxHeader) : Type 0 where
-  pub ty : h .ty ≡ kindOf (TBox c)
-  pub long : h .length ≡ boxLength c
-  pub head : h .«header_length» ≡ headerLength c
-  pub least : headerLength c ≤ boxLength c
-  pub most : boxLength c ≤ length c
-  pub room : at + length c ≤ 4294967295
 
 -- an end of the walk; a refusal leaves the record as it was
 abbrev pub stops : Jp2 → Walked → Turn

@@ -36,11 +36,11 @@ rowBytes s at (suc n) = rowBytes s at n + entryBytes (number s (at + n) 1)
 abbrev pub B : List ℕ → Palette → ℕ → ℕ
 B f p i = number f (p .place + i) 1
 
-abbrev pub row : List ℕ → Palette → ℕ
-row f p = rowBytes f (p .place) (p .columns)
+abbrev pub rowSize : List ℕ → Palette → ℕ
+rowSize f p = rowBytes f (p .place) (p .columns)
 
-unfoldable pub C : List ℕ → Palette → ℕ → ℕ → ℕ
-C f p j i = number f (p .place + p .columns + j * row f p + rowBytes f (p .place) i) (entryBytes (B f p i))
+unfoldable pub Cji : List ℕ → Palette → ℕ → ℕ → ℕ
+Cji f p j i = number f (p .place + p .columns + j * rowSize f p + rowBytes f (p .place) i) (entryBytes (B f p i))
 
 -- the box at a place of the file, with content c that begins at start
 unfoldable pub pclr : ℕ → ℕ → List ℕ → Jp2 → Result

@@ -20,7 +20,7 @@ use Rattle.jp2_record.proofs.Told.{answer-done, answer-refused}
 use Rattle.jp2_walk.specs.declared.Step.{Step}
 use Rattle.jp2_walk.specs.Split.{Boxes, _▸_, firstBox, split, boxes}
 use Rattle.jp2_walk.specs.Child.{child}
-use Rattle.jp2_walk.specs.Jp2h.{readAll, lacksIhdr, withHeader, jp2h, jp2hAlone}
+use Rattle.jp2_walk.specs.Jp2h.{readAll, lacksIhdr, withHeaderBit, jp2h, jp2hAlone}
 use Rattle.jp2_record.specs.Record.{withImgstate}
 use Rattle.jp2_record.specs.State.{fileTypeBit}
 use Rattle.jp2_walk.specs.Step.{fault, readBox, step}
@@ -153,6 +153,6 @@ module _ (place start : ℕ) (c : List ℕ) (j : Jp2) (room : start + length c �
     unfolding jp2h
     jp2h-lacks e f = alone (row 1 _ (on, tt) (rw e (row 0 _ f refl)))
 
-    pub jp2h-done : {k m : Jp2} → readAll (boxes start c) (withImgstate 0 j) ≡ accepted k → lacksIhdr (boxes start c) ≡ false → m ≡ withHeader k → accepted m ≡ jp2hAlone place start c j
+    pub jp2h-done : {k m : Jp2} → readAll (boxes start c) (withImgstate 0 j) ≡ accepted k → lacksIhdr (boxes start c) ≡ false → m ≡ withHeaderBit k → accepted m ≡ jp2hAlone place start c j
     unfolding jp2h
     jp2h-done e f g = alone (row 1 _ (on, tt) (rw e (row 1 _ (f, tt) (ap accepted g))))

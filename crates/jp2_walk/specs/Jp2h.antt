@@ -33,8 +33,8 @@ lacksIhdr (past b) = true
 lacksIhdr (b ▸ bs) = not (eqb (b .type) 0x69686472) && lacksIhdr bs
 
 -- the header bit, and has_jp2h
-abbrev pub withHeader : Jp2 → Jp2
-withHeader k = withHasJp2h (withState (withBit 4 (k .status .state)) k)
+abbrev pub withHeaderBit : Jp2 → Jp2
+withHeaderBit k = withHasJp2h (withState (withBit 4 (k .status .state)) k)
 
 -- the box at a place of the file, with content c that begins at start
 unfoldable pub jp2h : ℕ → ℕ → List ℕ → Jp2 → Result
@@ -45,7 +45,7 @@ jp2h place start c j =
     ∣ otherwise (andThen (readAll bs (withImgstate 0 j)) λ k.
     table
     (flag (lacksIhdr bs) ⇒ refused 12 place
-    ∣ otherwise (accepted (withHeader k)))))
+    ∣ otherwise (accepted (withHeaderBit k)))))
 
 -- as a reader of its own: a content that reaches past the last place that a file can have is past the file
 unfoldable pub jp2hAlone : ℕ → ℕ → List ℕ → Jp2 → Result

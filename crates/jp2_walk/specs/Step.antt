@@ -28,13 +28,14 @@ fault c =
 unfoldable pub found : List ℕ → Child
 found c = table (fault c ≠? 0 ⇒ Fault (fault c) ∣ otherwise (Found (headerOf c)))
 
--- a header that was read from c, whose box lies within 32 bits from a place on
+-- a header that was read from c, whose box lies in it; c reaches no further than 32 bits from a place on
 pub record Heads (at : ℕ) (c : List ℕ) (h : Jp2BoxHeader) : Type 0 where
   pub ty : h .ty ≡ kindOf (TBox c)
-  pub length : h .length ≡ boxLength c
-  pub header : h .«header_length» ≡ headerLength c
-  pub within : headerLength c ≤ boxLength c
-  pub room : at + boxLength c ≤ 4294967295
+  pub long : h .length ≡ boxLength c
+  pub head : h .«header_length» ≡ headerLength c
+  pub least : headerLength c ≤ boxLength c
+  pub most : boxLength c ≤ length c
+  pub room : at + length c ≤ 4294967295
 
 abbrev pub readBox : ℕ → List ℕ → Bool → Jp2 → Step
 readBox at c lacks k = record { outcome = answer k (child (firstBox at c) k); size = boxLength c; lacks = not (eqb (TBox c) 0x69686472) && lacks }

@@ -19,7 +19,7 @@ part-requires : tie.Need-part-requires
 part-requires c κs = search needs
 
 add-start : tie.Need-add-start
-add-start c = let p = c .before .before .before .before .before .pre in omega (arith, p .header, p .within, p .room)
+add-start c = let p = c .before .before .before .before .before .pre in omega (arith, p .head, p .least, p .most, p .room)
 
 read-content-requires : tie.Need-read-content-requires
 read-content-requires c κs = search needs
@@ -28,10 +28,10 @@ enum-told : tie.Need-enum-told
 enum-told c = search needs
 
 returns : tie.Need-returns
-returns c = let a = c .before .before .before .before .before .before .before .before .args in let p = c .before .before .before .before .before .before .before .before .pre in let t = is-kind (p .ty) (c .enum-told .given .1) in box-read (a .at) (a .c .now) (a .lacks) (a .k) _ (c .before .before .read-content .ensures) (cc) (p .length) (rw t)
+returns c = let a = c .before .before .before .before .before .before .before .before .args in let p = c .before .before .before .before .before .before .before .before .pre in let t = is-kind (p .ty) (c .enum-told .given .1) in box-read (a .at) (a .c .now) (a .lacks) (a .k) _ (c .before .before .read-content .ensures) (cc) (p .long) (rw t)
 
 returns-2 : tie.Need-returns-2
-returns-2 c = let a = c .before .before .before .before .before .before .before .args in let p = c .before .before .before .before .before .before .before .pre in box-read (a .at) (a .c .now) (a .lacks) (a .k) _ (c .before .read-content .ensures) (cc) (p .length) (rw (ne-eqb _ _ (not-ihdr (p .ty) (c .match .keys2))))
+returns-2 c = let a = c .before .before .before .before .before .before .before .args in let p = c .before .before .before .before .before .before .before .pre in box-read (a .at) (a .c .now) (a .lacks) (a .k) _ (c .before .read-content .ensures) (cc) (p .long) (rw (ne-eqb _ _ (not-ihdr (p .ty) (c .match .keys2))))
 
 pub read-box-spec : {M : Type 1} → statement M
 read-box-spec =

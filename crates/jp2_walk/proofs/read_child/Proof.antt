@@ -22,7 +22,7 @@ enum-known-child-2 : tie.Need-enum-known-child-2
 enum-known-child-2 c = search needs
 
 read-box-requires : tie.Need-read-box-requires
-read-box-requires c κs = let s = c .before .before .before .before .before .args .c .now in let f = found-tells s (c .before .before .before .find-child .ensures) (c .before .child2 .given .1) in let w = sound s (f .1) in record { ty = ap (λ (x : Jp2BoxHeader). x .ty) (f .0); length = ap (λ (x : Jp2BoxHeader). x .length) (f .0); header = ap (λ (x : Jp2BoxHeader). x .«header_length») (f .0); within = w .least; room = omega (arith, w .most, c .before .before .before .before .before .pre) }
+read-box-requires c κs = let s = c .before .before .before .before .before .args .c .now in let f = found-tells s (c .before .before .before .find-child .ensures) (c .before .child2 .given .1) in let w = sound s (f .1) in record { ty = ap (λ (x : Jp2BoxHeader). x .ty) (f .0); long = ap (λ (x : Jp2BoxHeader). x .length) (f .0); head = ap (λ (x : Jp2BoxHeader). x .«header_length») (f .0); least = w .least; most = w .most; room = c .before .before .before .before .before .pre }
 
 returns : tie.Need-returns
 returns c = let a = c .before .before .before .before .before .before .args in let s = a .c .now in let f = found-tells s (c .before .before .before .before .find-child .ensures) (c .before .before .child .given .1) in let e = step-broken (a .at) s (a .lacks) (a .k) (f .1) in cc

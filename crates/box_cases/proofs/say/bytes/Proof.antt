@@ -1,0 +1,40 @@
+-- `box_cases::say::bytes` is safe and ends: what is left of the slice falls.
+-- Assumes nothing.
+use Prim.Native.Nat.{_-_}
+use native.Mathlib.Omega.{arith}
+use lib.ListN.{length}
+use Rattle.box_cases.proofs.say.bytes.Statement.{statement}
+use Rattle.box_cases.proofs.say.bytes.Tie as tie
+
+abbrev Inv-loop : tie.InvT-loop
+Inv-loop s i₀ i = Unit {0}
+
+abbrev μ-loop : tie.MeasureT-loop
+μ-loop s i₀ i = length s - i
+
+size-requires : tie.Need-size-requires Inv-loop μ-loop
+size-requires c κs = tt
+
+loop-holds : tie.Need-loop-holds Inv-loop μ-loop
+loop-holds c = tt
+
+shared-slice-read-byte : tie.Need-shared-slice-read-byte Inv-loop μ-loop
+shared-slice-read-byte c = omega arith
+
+byte-requires : tie.Need-byte-requires Inv-loop μ-loop
+byte-requires c κs = tt
+
+add-i : tie.Need-add-i Inv-loop μ-loop
+add-i c = omega arith
+
+loop-less : tie.Need-loop-less Inv-loop μ-loop
+loop-less c = omega arith
+
+loop-again : tie.Need-loop-again Inv-loop μ-loop
+loop-again c = tt
+
+returns : tie.Need-returns Inv-loop μ-loop
+returns c = tt
+
+pub bytes-spec : {M : Type 1} → statement M
+bytes-spec = tie.close (tie.spec Inv-loop μ-loop size-requires loop-holds shared-slice-read-byte byte-requires add-i loop-less loop-again returns)

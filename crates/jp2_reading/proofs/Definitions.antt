@@ -1,0 +1,57 @@
+-- A file is read the same whatever stands in its definition list; and the places that reading answers.
+-- Assumes nothing.
+use Prim.Native.Nat.{ℕ}
+use mathlib.Core.Path.{_≡_, refl, sym, ap, subst}
+use mathlib.Core.List.{List}
+use native.Mathlib.Omega.{arith}
+use lib.ListN.{length}
+use Rattle.jp2_cio.specs.Table.{_=?_, otherwise, _⇒_∣_}
+use Rattle.jp2_cio.proofs.Rows.{row, each}
+use Rattle.jp2_record.specs.declared.Jp2.{Jp2}
+use Rattle.jp2_record.specs.Record.{blank}
+use Rattle.jp2_record.specs.Answer.{accepted}
+use Rattle.jp2_file.specs.File.{Walked, codestream, ended, turnedDown, walk, read}
+use Rattle.jp2_reading.specs.Alike.{given, DefinitionsFree}
+use Rattle.jp2_reading.specs.Apart.{entries}
+use Rattle.jp2_reading.specs.Places.{PlacesWithin, TooLong}
+use Rattle.jp2_reading.proofs.Parts.{AlikeFrom, lies-whole, alike-whole, equal-apart}
+use Rattle.jp2_reading.proofs.Changes.{Law}
+use Rattle.jp2_reading.proofs.Local.{free, Moves, Reads}
+use Rattle.jp2_reading.proofs.Walks.{heard, file-reads}
+
+pub too-long : TooLong
+unfolding walk
+too-long f h = sym (row 0 _ (omega arith) refl)
+
+-- what reading f does to the record before any box
+pub read-reads : {f : List ℕ} {P : ℕ → Jp2 → Type 0} → Law f P → Reads P (heard (length f) 0 blank) 0 f blank (read f)
+unfolding walk
+read-reads {f} {P} law = each (Reads P (heard (length f) 0 blank) 0 f blank) _ ((λ h. omega arith), λ _. file-reads law (length f) 0 f blank (lies-whole f))
+
+-- the record that f is read to
+pub read-moves : {f : List ℕ} {P : ℕ → Jp2 → Type 0} → Law f P → (m : Jp2) → given (read f) ≡ accepted m → Moves P (heard (length f) 0 blank) 0 f blank m
+read-moves {f} {P} law m = go (read f) (read-reads law)
+  where
+    go : (w : Walked) → Reads P (heard (length f) 0 blank) 0 f blank w → given w ≡ accepted m → Moves P (heard (length f) 0 blank) 0 f blank m
+    go (codestream offset k) y e = let z : k ≡ m = cc in subst (Moves P (heard (length f) 0 blank) 0 f blank) z (y .1)
+    go (ended k) y e = let z : k ≡ m = cc in subst (Moves P (heard (length f) 0 blank) 0 f blank) z y
+    go (turnedDown number place) y e = let z : _≡_ {A = ℕ} 0 1 = cc in absurd (omega arith)
+
+-- of what asks nothing of the record
+nothing : (f : List ℕ) → Law f (λ _ _. Unit)
+nothing f = record { later = λ _ _ _ _. tt; change = λ _ _ _ _ _ _ _. tt }
+
+-- where there is no definition, the files are equal
+pub definitions-free : DefinitionsFree
+unfolding walk
+definitions-free f g m e a =
+    let d : AlikeFrom 0 (entries 6 (m .lists .cdef)) f g = alike-whole a (entries 6 (m .lists .cdef)) (omega arith) (omega arith) in
+    each (λ (_ : ℕ). read g ≡ read f) (m .lists .cdef .count =? 0 ⇒ 0 ∣ otherwise 0)
+    ((λ z. ap read (equal-apart d (λ i l b. omega arith))), λ h. rw (a .long, free refl (omega arith) ((read-moves (nothing f) m e) .list) g d))
+
+pub places-within : PlacesWithin
+places-within =
+    record {
+      refusal = λ f number place e. omega (arith, subst (Reads (λ _ _. Unit) (heard (length f) 0 blank) 0 f blank) e (read-reads (nothing f)));
+      stream = λ f offset m e. omega (arith, (subst (Reads (λ _ _. Unit) (heard (length f) 0 blank) 0 f blank) e (read-reads (nothing f))) .0);
+    }

@@ -1,0 +1,14 @@
+pub mod Sames
+pub mod Parts
+pub mod Splits
+pub mod Changes
+pub mod Local
+pub mod Readers
+pub mod Superbox
+pub mod Walks
+pub mod Definitions
+pub mod Ranges
+pub mod Lists
+pub mod Frees
+pub mod Again
+pub mod Sounds
