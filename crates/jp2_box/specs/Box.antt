@@ -39,7 +39,7 @@ header c =
     ∣ 4294967295 <? boxLength c ⇒ HighWord
     ∣ otherwise (Header (headerOf c)))
 
--- inside a superbox LBox 0 is told apart too: only the last box of the file may reach to an end that it does not name
+-- inside a superbox LBox 0 is told apart too: only the last box of the file may reach to an end that it does not name (difference 19)
 unfoldable pub childHeader : List ℕ → ReadHeader
 childHeader c = table (length c <? 8 ⇒ header c ∣ LBox c =? 0 ⇒ LengthZero ∣ otherwise (header c))
 

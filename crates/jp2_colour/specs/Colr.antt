@@ -1,5 +1,5 @@
 -- I.5.3.3, Colour Specification box: METH, PREC, APPROX (1 byte each), then EnumCS (4) and its parameters for METH 1, an ICC profile for METH 2.
--- Difference 8: a METH of 0 or above 2 leaves its three fields, and the next colr is read.
+-- Differences 8 and 17: a METH of 0 or above 2 leaves its three fields in the record, and the next colr is read; EnumCS may have any value, and 14 is CIELab.
 use Prim.Native.Nat.{ℕ, _+_, _-_}
 use mathlib.Core.List.{List, [], _∷_}
 use lib.ListN.{length}

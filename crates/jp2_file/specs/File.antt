@@ -42,7 +42,7 @@ ofHeader b = flag (isImageHeader (kindOf (b .type)))
 abbrev pub ofFile : Box → Test
 ofFile b = flag (isFileHeader (kindOf (b .type)))
 
--- any other box may not come before signature and file type; the state's unknown bits tell of it
+-- any other box may not come before signature and file type; the state's unknown bits tell of it, and the header bit is one of them (difference 15)
 abbrev pub other : Box → Jp2 → Result
 other b k =
     table
@@ -69,7 +69,7 @@ pastEnd b k = table (ofFile b or ofHeader b ⇒ turnedDown 4 (b .place) ∣ othe
 abbrev pub whole : Box → Jp2 → (Jp2 → Walked) → Walked
 whole b k next = table (isStream b ⇒ stream b k ∣ otherwise (thenWalk (outer b k) next))
 
--- the boxes in order; the codestream's length is not tested (difference 14)
+-- the boxes in order; the codestream's length is not tested (difference 14), and a file that does not reach one has ended (difference 16)
 unfoldable pub run : Boxes → Jp2 → Walked
 run noBytes k = ended k
 run (cut place) k = ended k
