@@ -34,11 +34,11 @@ not-both (flag b) h f = true-false (cc)
 not-both (s or t) h f = not-both t (h (f .0)) (f .1)
 not-both (s and t) h f = not-both t (h .1) (f (h .0))
 
-either : {X : Type 0} (b : Bool) → (b ≡ true → X) → (b ≡ false → X) → X
+pub either : {X : Type 0} (b : Bool) → (b ≡ true → X) → (b ≡ false → X) → X
 either true f g = f refl
 either false f g = g refl
 
-said : (b : Bool) (t : Test) → holds t ≡ b → Says b t
+pub said : (b : Bool) (t : Test) → holds t ≡ b → Says b t
 said true (m =? n) e = eqb-true m n e
 said false (m =? n) e = eqb-false m n e
 said true (m ≠? n) e = eqb-false m n (not-true (eqb m n) e)
@@ -52,7 +52,7 @@ said false (s or t) e = either (holds s) (λ h. true-false (rw h at e)) (λ h. (
 said true (s and t) e = either (holds s) (λ h. (said true s h, said true t (rw h at e))) (λ h. true-false (cc))
 said false (s and t) e = λ f. either (holds s) (λ h. said false t (rw h at e)) (λ h. absurd (not-both s f (said false s h)))
 
-shown : (b : Bool) (t : Test) → Says b t → holds t ≡ b
+pub shown : (b : Bool) (t : Test) → Says b t → holds t ≡ b
 shown true t h = either (holds t) (λ e. e) (λ e. absurd (not-both t h (said false t e)))
 shown false t h = either (holds t) (λ e. absurd (not-both t (said true t e) h)) (λ e. e)
 

@@ -1,0 +1,4 @@
+pub mod Swapping
+pub mod Agreement
+pub mod Defining
+pub mod Listing

@@ -1,0 +1,100 @@
+-- The end of a run of definitions over a list: its first records are those of the arrangement, in order, and the rest is as it was.
+-- Assumes nothing.
+use Prim.Native.Nat.{ℕ, zero, suc, _+_, _-_, _*_, _/_, _%_, _≤_, _<_}
+use mathlib.Core.Path.{_≡_, refl, ap, sym, _∙_}
+use mathlib.Core.List.{List, [], _∷_, _++_}
+use native.Mathlib.Omega.{arith}
+use native.Mathlib.Numerals.{add-one}
+use native.Mathlib.Decide.{ℕ-discrete}
+use borrow.Author.Tests.{ltb-true, ltb-false}
+use lib.Dec.{ltb}
+use lib.ListN.{length, getD, drop, length-append, length-drop, List·getD-append}
+use lib.Seq.{getD-at, getD-append-add, getD-drop, ext-getD}
+use Rattle.jp2_cio.specs.Table.{Test, _=?_, _and_, Rows, otherwise, _⇒_∣_, table}
+use Rattle.jp2_cio.proofs.Rows.{row, each, either}
+use Rattle.jp2_record.specs.declared.Span.{Span}
+use Rattle.jp2_palette.specs.Cdef.{Cn, Typ, Asoc}
+use Rattle.jp2_order.specs.Definitions.{Def, def, definition, definitions, definitionsTo}
+use Rattle.jp2_order.specs.Order.{Arranged, exchange, define, run, arranged}
+use Rattle.jp2_cdef.specs.Flat.{numberOf, listed, reordered}
+use Rattle.jp2_cdef.specs.Steps.{Agree}
+use Rattle.jp2_order.proofs.Exchange
+use Rattle.jp2_cdef.proofs.Agreement.{rows}
+
+length-listed : (g : ℕ → ℕ) (n : ℕ) → length (listed g n) ≡ n
+unfolding listed
+length-listed g zero = refl
+length-listed g (suc n) = simp (length-append, length-listed g n) (omega arith)
+
+getD-listed : (g : ℕ → ℕ) (n i : ℕ) → i < n → getD (listed g n) i 0 ≡ g i
+unfolding listed
+getD-listed g zero i h = absurd (omega arith)
+getD-listed g (suc n) i h = go (ℕ-discrete i n) (getD-listed g n i)
+  where
+    go : Dec (i ≡ n) → (i < n → getD (listed g n) i 0 ≡ g i) → getD (listed g n ++ (g n ∷ [])) i 0 ≡ g i
+    go (yes e) f = rw e (getD-at (listed g n) (g n) [] 0 n (length-listed g n))
+    go (no e) f = List·getD-append (listed g n) (g n ∷ []) 0 i (omega (arith, length-listed g n)) ∙ f (omega arith)
+
+-- a position past the records keeps its numbers
+module _ (n r k : ℕ) (h : n ≤ r) where
+  unmarked : (p t v : ℕ) → p + 1 ≤ n → table (r =? p and k =? 12 ⇒ t ∣ otherwise v) ≡ v
+  unmarked p t v i = sym (row 1 (r =? p and k =? 12 ⇒ t ∣ otherwise v) ((λ e. absurd (omega arith)), tt) refl)
+
+  beyond : (d : Def) (a : Arranged) → define n d a .records r k ≡ a .records r k
+  unfolding define
+  beyond d a =
+      let p = a .seat (d .channel) in
+      each (λ b. b .records r k ≡ a .records r k) (rows n d p a) (
+        (λ _. refl),
+        λ i. (
+          (λ _. unmarked p _ _ i),
+          λ j. ((λ _. refl), λ l. ((λ _. unmarked p _ _ i ∙ ap (λ x. a .records x k) (Exchange.other _ _ _ (omega arith) (omega arith))), (λ _. unmarked p _ _ i))),
+        ),
+      )
+
+  beyond-run : (ds : List Def) (a : Arranged) → run n ds a .records r k ≡ a .records r k
+  unfolding run
+  beyond-run [] a = refl
+  beyond-run (d ∷ ds) a = beyond-run ds (define n d a) ∙ beyond d a
+
+-- one definition more
+run-last : (n : ℕ) (ds : List Def) (d : Def) (a : Arranged) → run n (ds ++ (d ∷ [])) a ≡ define n d (run n ds a)
+unfolding run
+run-last n [] d a = refl
+run-last n (e ∷ ds) d a = run-last n ds d (define n e a)
+
+pub agree-more : (f : List ℕ) (l : Span) (n i : ℕ) (records : ℕ → ℕ → ℕ) (c t s : ℕ) (recs seat : List ℕ) → c ≡ Cn f l i → t ≡ Typ f l i → s ≡ Asoc f l i → Agree n recs seat (define n (def c t s) (arranged n (definitionsTo f l i) records)) → Agree n recs seat (arranged n (definitionsTo f l (i + 1)) records)
+unfolding definitionsTo
+agree-more f l n i records c t s recs seat ec et es g =
+    rw (add-one, run-last n (definitionsTo f l i) (definition f l i)) (rw (ec, et, es) at g)
+
+pub whole : (f : List ℕ) (cdef : Span) (n : ℕ) (l recs seat : List ℕ) → length recs ≡ length l → 13 * n ≤ length l → Agree n recs seat (arranged n (definitions f cdef) (numberOf l)) → recs ≡ reordered f cdef n l
+unfolding reordered
+whole f cdef n l recs seat e room g =
+    ext-getD 0 recs (listed at (13 * n) ++ drop (13 * n) l)
+    (simp (length-append, length-listed at (13 * n), length-drop) (omega arith))
+    (λ i h. either (ltb i (13 * n)) (λ b. low i (ltb-true i (13 * n) b)) (λ b. high i (ltb-false i (13 * n) b)))
+  where
+    at : ℕ → ℕ
+    at i = arranged n (definitions f cdef) (numberOf l) .records (i / 13) (i % 13)
+
+    parts : (i : ℕ) → 13 * (i / 13) + i % 13 ≡ i
+    parts i = omega arith
+
+    here : (i : ℕ) → at i ≡ getD recs i 0
+    here i = g .says (i / 13) (i % 13) (omega arith) ∙ ap (λ x. getD recs x 0) (parts i)
+
+    low : (i : ℕ) → i < 13 * n → getD recs i 0 ≡ getD (listed at (13 * n) ++ drop (13 * n) l) i 0
+    low i h = sym (List·getD-append (listed at (13 * n)) _ 0 i (omega (arith, length-listed at (13 * n))) ∙ getD-listed at (13 * n) i h ∙ here i)
+
+    rest : (i : ℕ) → 13 * n ≤ i → getD (listed at (13 * n) ++ drop (13 * n) l) i 0 ≡ getD l i 0
+    rest i h =
+        let a : i ≡ length (listed at (13 * n)) + (i - 13 * n) = omega (arith, length-listed at (13 * n)) in
+        let b : 13 * n + (i - 13 * n) ≡ i = omega arith in
+        ap (λ x. getD (listed at (13 * n) ++ drop (13 * n) l) x 0) a ∙ getD-append-add (listed at (13 * n)) _ (i - 13 * n) 0 ∙ getD-drop (13 * n) l (i - 13 * n) 0
+        ∙ ap (λ x. getD l x 0) b
+
+    high : (i : ℕ) → 13 * n ≤ i → getD recs i 0 ≡ getD (listed at (13 * n) ++ drop (13 * n) l) i 0
+    high i h =
+        sym (here i) ∙ beyond-run n (i / 13) (i % 13) (omega arith) (definitions f cdef) _ ∙ ap (λ x. getD l x 0) (parts i)
+        ∙ sym (rest i h)

@@ -1,0 +1,36 @@
+-- Records of thirteen numbers in one list, and what the definitions of a file make of it.
+use Prim.Native.Nat.{ℕ, zero, suc, _+_, _*_, _/_, _%_}
+use mathlib.Core.List.{List, [], _∷_, _++_}
+use lib.ListN.{length, getD, drop}
+use Rattle.jp2_cio.specs.Table.{Test, _<?_, _or_, Rows, otherwise, _⇒_∣_, table}
+use Rattle.jp2_record.specs.declared.Span.{Span}
+use Rattle.jp2_record.specs.declared.Answer.{Answer}
+use Rattle.jp2_record.specs.declared.Answer.the-variants.{Done, Refused}
+use Rattle.jp2_order.specs.Definitions.{definitions}
+use Rattle.jp2_order.specs.Order.{Arranged, arranged}
+
+-- number k of record r
+abbrev pub numberOf : List ℕ → ℕ → ℕ → ℕ
+numberOf l r k = getD l (13 * r + k) 0
+
+-- the values of g below n, in order
+unfoldable pub listed : (ℕ → ℕ) → ℕ → List ℕ
+listed g zero = []
+listed g (suc n) = listed g n ++ (g n ∷ [])
+
+-- the list l with its first n records in the order of the definitions, and the rest as it was
+unfoldable pub reordered : List ℕ → Span → ℕ → List ℕ → List ℕ
+reordered f cdef n l =
+    let a = arranged n (definitions f cdef) (numberOf l) in
+    listed (λ i. a .records (i / 13) (i % 13)) (13 * n) ++ drop (13 * n) l
+
+-- number 29: too many records, records outside their list, or definitions outside the file
+abbrev pub outside : List ℕ → Span → ℕ → List ℕ → Test
+outside f cdef n l =
+    16384 <? n or length l <? 13 * n or 65535 <? cdef .count or length f <? cdef .place + 6 * cdef .count
+
+unfoldable pub answered : List ℕ → Span → ℕ → List ℕ → Answer
+answered f cdef n l = table (outside f cdef n l ⇒ Refused 29 0 ∣ otherwise Done)
+
+unfoldable pub afterwards : List ℕ → Span → ℕ → List ℕ → List ℕ
+afterwards f cdef n l = table (outside f cdef n l ⇒ l ∣ otherwise (reordered f cdef n l))

@@ -1,0 +1,5 @@
+pub mod Exchange
+pub mod Steps
+pub mod Counting
+pub mod Runs
+pub mod Rules

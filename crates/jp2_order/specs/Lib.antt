@@ -1,0 +1,4 @@
+pub mod Definitions
+pub mod Order
+pub mod Rules
+pub mod Cases

@@ -1,0 +1,30 @@
+-- The numbers of records in one list: number k of record p stands at 13 * p + k.
+-- Assumes nothing.
+use Prim.Native.Nat.{ℕ, zero, suc, _+_, _*_, _/_, _%_, _<_}
+use mathlib.Core.Path.{_≡_, refl, _∙_}
+use mathlib.Core.List.{[]}
+use native.Mathlib.Omega.{arith}
+use lib.ListN.{length, getD, length-append, List·getD-append}
+use lib.Seq.{getD-at}
+use Rattle.jp2_picture.specs.Finish.{flat}
+use Rattle.jp2_picture.proofs.Indices.{last-or}
+
+module _ (records : ℕ → ℕ → ℕ) where
+  pub flat-length : (n : ℕ) → length (flat records n) ≡ n
+  unfolding flat
+  flat-length zero = refl
+  flat-length (suc n) = rw length-append (omega (arith, flat-length n))
+
+  flat-number : (n i : ℕ) → i < n → getD (flat records n) i 0 ≡ records (i / 13) (i % 13)
+  unfolding flat
+  flat-number zero i h = absurd (omega arith)
+  flat-number (suc n) i h =
+      last-or n i h
+      (λ e. rw e (getD-at (flat records n) (records (n / 13) (n % 13)) [] 0 n (flat-length n)))
+      (λ b. List·getD-append (flat records n) _ 0 i (omega (arith, flat-length n)) ∙ flat-number n i b)
+
+  pub flat-at : (n p k : ℕ) → p < n → k < 13 → getD (flat records (13 * n)) (13 * p + k) 0 ≡ records p k
+  flat-at n p k h l =
+      let quotient : (13 * p + k) / 13 ≡ p = omega arith in
+      let remainder : (13 * p + k) % 13 ≡ k = omega arith in
+      flat-number (13 * n) (13 * p + k) (omega arith) ∙ rw (quotient, remainder)

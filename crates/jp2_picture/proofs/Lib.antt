@@ -1,0 +1,14 @@
+pub mod Indices
+pub mod Flats
+pub mod Packs
+pub mod Checks
+pub mod Listed
+pub mod Mappings
+pub mod Pictures
+pub mod Agrees
+pub mod Accepts
+pub mod Seats
+pub mod Orders
+pub mod Distinct
+pub mod Mets
+pub mod Demand3

@@ -1,0 +1,70 @@
+-- Channels with a mapping and without one: their components, and that these exist.
+-- Assumes nothing.
+use Prim.Native.Nat.{ℕ, _≤_, _<_}
+use mathlib.Core.Path.{_≡_, refl, sym}
+use mathlib.Core.Bool.{true, false}
+use mathlib.Core.List.{List}
+use native.Mathlib.Omega.{arith}
+use Rattle.jp2_cio.proofs.Rows.{Says, row, each}
+use Rattle.jp2_record.specs.declared.Jp2.{Jp2}
+use Rattle.jp2_palette.specs.Cmap.{CMP}
+use Rattle.jp2_picture.specs.Image.{Image}
+use Rattle.jp2_picture.specs.Channels.{mapped, channels, componentOf, typeOf}
+use Rattle.jp2_picture.specs.Finish.{outsideLists, outsideFile}
+use Rattle.jp2_picture.specs.Words.{Handed}
+use Rattle.jp2_picture.proofs.Indices.{lowest-none}
+use Rattle.jp2_picture.proofs.Packs.{Within}
+use Rattle.jp2_picture.proofs.Checks.{Checked}
+
+-- a mapping for each column of the palette, and an entry where there is a column
+pub record Kept (m : Jp2) : Type 0 where
+  pub columns : Says true (mapped m) → m .lists .cmap .count ≡ m .lists .pclr .columns
+  pub entries : Says true (mapped m) → 0 < m .lists .pclr .entries
+
+pub kept : (f : List ℕ) (m : Jp2) → Says false (outsideFile f m) → Kept m
+kept f m inside =
+    record {
+      columns = λ h. inside .1 .0 h .0;
+      entries = λ h. let e = inside .1 .0 h .0 in omega (arith, inside .0 (λ z. h (omega arith)) .0);
+    }
+
+-- there are at most 16384 channels
+pub channels-few : (f : List ℕ) (m : Jp2) (i : Image) → Says false (outsideLists i) → Says false (outsideFile f m) → channels m (i .count) ≤ 16384
+unfolding channels
+channels-few f m i lists file =
+    each (λ n. n ≤ 16384) _
+    ((λ h. let e = file .1 .0 h .0 in let n = file .0 (λ z. h (omega arith)) .1 .1 .0 in omega arith), λ h. lists .0)
+
+module _ (m : Jp2) where
+  -- a channel has a mapping, or is a component
+  pub channel-cases : {X : Type 0} (n c : ℕ) → Kept m → c < channels m n → (Says true (mapped m) → c < m .lists .cmap .count → X) → (Says false (mapped m) → c < n → X) → X
+  unfolding channels
+  channel-cases {X} n c k l direct plain = each (λ a. c < a → X) _ ((λ h b. direct h (omega (arith, k .columns h))), λ h b. plain h b) l
+
+  pub mapped-channels : (n : ℕ) → Says true (mapped m) → channels m n ≡ m .lists .pclr .columns
+  unfolding channels
+  mapped-channels n h = sym (row 0 _ h refl)
+
+  module _ (f : List ℕ) (c : ℕ) where
+    pub mapped-component : Says true (mapped m) → componentOf f m c ≡ CMP f (m .lists .cmap) c
+    unfolding componentOf
+    mapped-component h = sym (row 0 _ h refl)
+
+    pub plain-component : Says false (mapped m) → componentOf f m c ≡ c
+    unfolding componentOf
+    plain-component h = sym (row 1 _ (h, tt) refl)
+
+    pub plain-type : (n : ℕ) → Says false (mapped m) → typeOf f m n c ≡ 0
+    unfolding typeOf
+    plain-type n h = sym (row 2 _ ((λ z. absurd (z h)), (h, tt)) refl)
+
+-- every channel's component exists, and its samples lie in the list
+module _ (h : Handed) (m : Jp2) (kept : Kept m) (checked : Checked h m) (c : ℕ) (l : c < channels m (h .image .count)) where
+  component-below : componentOf (h .file) m c < h .image .count
+  component-below =
+      channel-cases m (h .image .count) c kept l
+      (λ t b. omega (arith, mapped-component m (h .file) c t, checked .mapping c b .0))
+      (λ t b. omega (arith, plain-component m (h .file) c t))
+
+  pub component-within : Says false (outsideLists (h .image)) → Within (h .image) (componentOf (h .file) m c)
+  component-within inside = lowest-none _ _ (inside .1 .1 .1) (componentOf (h .file) m c) component-below

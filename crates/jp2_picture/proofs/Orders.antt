@@ -1,0 +1,83 @@
+-- Order freedom: definitions in another order are accepted as well, and give the same planes at the same places.
+-- Assumes nothing.
+use Prim.Native.Nat.{ℕ, _≤_}
+use mathlib.Core.Path.{_≡_, refl, sym, ap, subst, subst₂, _∙_}
+use mathlib.Core.List.{List}
+use native.Mathlib.Nat.{le-refl}
+use native.Mathlib.Omega.{arith}
+use Rattle.jp2_record.specs.declared.Jp2.{Jp2}
+use Rattle.jp2_record.specs.Answer.{Result, accepted}
+use Rattle.jp2_file.specs.File.{read}
+use Rattle.jp2_reading.specs.Alike.{given}
+use Rattle.jp2_reading.proofs.Definitions.{definitions-free}
+use Rattle.jp2_reading.proofs.Frees.{palette-free, mappings-free}
+use Rattle.jp2_order.specs.Definitions.{definitions}
+use Rattle.jp2_order.specs.Order.{arranged}
+use Rattle.jp2_order.specs.Rules.{Once, OrderPairs, OrderFree}
+use Rattle.jp2_picture.specs.Image.{Image}
+use Rattle.jp2_picture.specs.Channels.{channels}
+use Rattle.jp2_picture.specs.Finish.{expanded, picture}
+use Rattle.jp2_picture.specs.Words.{Handed, Accepted, IsAccepted, Defined, Clear}
+use Rattle.jp2_picture.specs.OrderFreedom.{withFile, AlikeButOrder, SamePlanes, OrderFreedom}
+use Rattle.jp2_picture.proofs.Flats.{flat-at}
+use Rattle.jp2_picture.proofs.Checks.{passed, passes, applied}
+use Rattle.jp2_picture.proofs.Mappings.{Kept, kept, channels-few}
+use Rattle.jp2_picture.proofs.Agrees.{Agree, packed-same, expanded-same}
+use Rattle.jp2_picture.proofs.Accepts.{passed-same}
+use Rattle.jp2_picture.proofs.Seats.{arranged-same}
+
+planes-same : {f g : List ℕ} {m : Jp2} → Agree f g m → Kept m → (i : Image) → channels m (i .count) ≤ 16384 → OrderPairs → OrderFree → Once (definitions f (m .lists .cdef)) → SamePlanes (picture f m i) (picture g m i)
+unfolding picture
+planes-same {f} {g} {m} a k i few pairs free once =
+    let n = channels m (i .count) in
+    let ds = definitions f (m .lists .cdef) in
+    let es = definitions g (m .lists .cdef) in
+    record {
+      count = refl;
+      records = λ p j b l.
+          flat-at (arranged n es (expanded g m i) .records) n p j b (omega arith)
+          ∙ arranged-same pairs n es (expanded g m i) (expanded f m i) (expanded-same a k i) p j b l
+          ∙ sym (free n ds es (expanded f m i) (omega arith) once (a .reordered) p j l)
+          ∙ sym (flat-at (arranged n ds (expanded f m i) .records) n p j b (omega arith));
+      samples = packed-same a k i n (le-refl n);
+    }
+
+-- a file is read to one record
+only : {r : Result} {m k : Jp2} → r ≡ accepted m → r ≡ accepted k → k ≡ m
+only e d = cc
+
+module _ (h : Handed) (g : List ℕ) (m : Jp2) (o : AlikeButOrder h g m) where
+  reads : given (read g) ≡ accepted m
+  reads = ap given (definitions-free (h .file) g m (o .reads) (o .alike)) ∙ o .reads
+
+  agree : Agree (h .file) g m
+  agree = record { long = o .alike .long; palette = palette-free (h .file) g m (o .reads) (o .alike); mappings = mappings-free (h .file) g m (o .reads) (o .alike); reordered = o .reordered }
+
+  -- the first of the two may be either
+  pub either-first : AlikeButOrder (withFile g h) (h .file) m
+  either-first =
+      record {
+        reads = reads;
+        alike = record { long = sym (o .alike .long); outside = λ i l out. sym (o .alike .outside i (omega (arith, o .alike .long)) out) };
+        reordered = λ d. sym (o .reordered d);
+      }
+
+  both : IsAccepted h → IsAccepted (withFile g h)
+  both (k, planes, y) =
+      let z = subst (λ k. Accepted h k planes) (only (o .reads) (y .reading)) y in
+      (m, _, record { reading = reads; finishing = passes (withFile g h) m (passed-same h g m agree (passed h m planes (z .finishing) .0)) })
+
+  same : OrderPairs → OrderFree → (k : Jp2) (planes others : Image) → Accepted h m planes → Accepted (withFile g h) k others → Defined h m → Clear h m → SamePlanes planes others
+  same pairs free k planes others y z defined clear =
+      let p = applied h m planes (defined .applied) (y .finishing) in
+      let other = subst (λ k. Accepted (withFile g h) k others) (only reads (z .reading)) z in
+      let q = applied (withFile g h) m others (defined .applied) (other .finishing) in
+      subst₂ SamePlanes (sym (p .is-made)) (sym (q .is-made)) (planes-same agree (kept (h .file) m (p .file)) (h .image) (channels-few (h .file) m (h .image) (p .lists) (p .file)) pairs free clear)
+
+pub order-freedom-from : OrderPairs → OrderFree → OrderFreedom
+order-freedom-from pairs free =
+    record {
+      both = both;
+      neither = λ h g m o. both (withFile g h) (h .file) m (either-first h g m o);
+      same = λ h g m k planes others o. same h g m o pairs free k planes others;
+    }

@@ -1,0 +1,34 @@
+-- I.5.3.5 and document 01: the channels of a picture. They are the palette's columns where a mapping exists, else the components.
+use Prim.Native.Nat.{ℕ, zero, suc}
+use mathlib.Core.List.{List}
+use Rattle.jp2_cio.specs.Table.{Test, _=?_, _≠?_, _<?_, _and_, Rows, otherwise, _⇒_∣_, table}
+use Rattle.jp2_record.specs.declared.Jp2.{Jp2}
+use Rattle.jp2_palette.specs.Cmap.{CMP, MTYP}
+
+-- the lowest index below n for which a test holds; n where it holds for none
+unfoldable pub lowest : (ℕ → Test) → ℕ → ℕ
+lowest t zero = 0
+lowest t (suc n) = table (lowest t n <? n ⇒ lowest t n ∣ t n ⇒ n ∣ otherwise (suc n))
+
+-- some index below n passes the test
+abbrev pub some : (ℕ → Test) → ℕ → Test
+some t n = lowest t n <? n
+
+abbrev pub mapped : Jp2 → Test
+mapped m = m .lists .cmap .count ≠? 0
+
+-- how many channels a picture of n components has
+unfoldable pub channels : Jp2 → ℕ → ℕ
+channels m n = table (mapped m ⇒ m .lists .pclr .columns ∣ otherwise n)
+
+-- channel c's component
+unfoldable pub componentOf : List ℕ → Jp2 → ℕ → ℕ
+componentOf f m c = table (mapped m ⇒ CMP f (m .lists .cmap) c ∣ otherwise c)
+
+-- with one component, a direct mapping of a channel other than 0 makes all mappings palette mappings, each to its own column
+abbrev pub corrected : List ℕ → Jp2 → ℕ → Test
+corrected f m n = n =? 1 and some (λ c. 0 <? c and MTYP f (m .lists .cmap) c =? 0) (m .lists .cmap .count)
+
+-- channel c's type: 0 is direct use of its component, 1 the palette's column c
+unfoldable pub typeOf : List ℕ → Jp2 → ℕ → ℕ → ℕ
+typeOf f m n c = table (mapped m and corrected f m n ⇒ 1 ∣ mapped m ⇒ MTYP f (m .lists .cmap) c ∣ otherwise 0)

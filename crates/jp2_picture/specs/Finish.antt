@@ -1,0 +1,90 @@
+-- Finishing a picture with the record that reading its file gave: numbers 29, 25 to 28 and 30, in that order, or the finished picture.
+use Prim.Native.Nat.{ℕ, zero, suc, _+_, _*_, _/_, _%_}
+use mathlib.Core.List.{List, [], _∷_, _++_}
+use lib.IntN.{ℤ}
+use lib.ListN.{length}
+use Rattle.jp2_cio.specs.Table.{Test, _=?_, _≠?_, _<?_, _or_, _and_, Rows, otherwise, _⇒_∣_, table}
+use Rattle.jp2_record.specs.declared.Jp2.{Jp2}
+use Rattle.jp2_record.specs.Record.{span, palette, withPclr, withCmap, withCdef}
+use Rattle.jp2_palette.specs.Pclr.{depth, sign, B, rowSize}
+use Rattle.jp2_order.specs.Definitions.{definitions}
+use Rattle.jp2_order.specs.Order.{arranged}
+use Rattle.jp2_picture.specs.Image.{Image, component, width, height, first, none}
+use Rattle.jp2_picture.specs.Channels.{lowest, some, mapped, channels, componentOf}
+use Rattle.jp2_picture.specs.Samples.{packed, startOf}
+use Rattle.jp2_picture.specs.Check.{misnamed, undefined, mismapped, dataless}
+
+-- a finished picture, or a number and what goes with it
+pub data Finishing : Type 0 where
+  finished : Image → Finishing
+  declined : ℕ → ℕ → Finishing
+
+-- 29: a record or a plane outside its list
+abbrev pub outsideLists : Image → Test
+outsideLists i =
+    16384 <? i .count or length (i .components) <? 13 * i .count or 4294967294 <? length (i .samples)
+    or some (λ c. first i c ≠? none and length (i .samples) <? first i c + height i c * width i c) (i .count)
+
+-- 29: a palette, mapping or definition list that no reader gives, or that does not lie in the file
+abbrev pub outsideFile : List ℕ → Jp2 → Test
+outsideFile f m =
+    let p = m .lists .pclr in
+    let l = m .lists .cmap in
+    let d = m .lists .cdef in
+    p .columns ≠? 0 and (p .entries =? 0 or 1024 <? p .entries or 255 <? p .columns or length f <? p .place + p .columns + p .entries * rowSize f p)
+    or l .count ≠? 0 and (l .count ≠? p .columns or length f <? l .place + 4 * l .count)
+    or d .count ≠? 0 and (65535 <? d .count or length f <? d .place + 6 * d .count)
+
+-- with the ignore flag palette, mappings and definitions count for nothing
+unfoldable pub counted : ℕ → Jp2 → Jp2
+counted ignore m = table (ignore =? 0 ⇒ m ∣ otherwise (withPclr (palette 0 0 0) (withCmap (span 0 0) (withCdef (span 0 0) m))))
+
+-- number k of channel c's record before reordering: its component's, with the column's depth and sign as precision and sign, and with samples of its own
+unfoldable pub expanded : List ℕ → Jp2 → Image → ℕ → ℕ → ℕ
+expanded f m i c k =
+    let r = componentOf f m c in
+    table
+    (mapped m and k =? 6 ⇒ depth (B f (m .lists .pclr) c)
+    ∣ mapped m and k =? 8 ⇒ sign (B f (m .lists .pclr) c)
+    ∣ first i r ≠? none and k =? 11 ⇒ startOf f m i c
+    ∣ otherwise (component i r k))
+
+-- the first n numbers of records that are 13 numbers each
+unfoldable pub flat : (ℕ → ℕ → ℕ) → ℕ → List ℕ
+flat records zero = []
+flat records (suc n) = flat records n ++ (records (n / 13) (n % 13) ∷ [])
+
+-- the finished picture: the channels' records in the order that the definitions give, and the channels' samples
+unfoldable pub picture : List ℕ → Jp2 → Image → Image
+picture f m i =
+    let n = channels m (i .count) in
+    record {
+      components = flat (arranged n (definitions f (m .lists .cdef)) (expanded f m i) .records) (13 * n);
+      count = n;
+      samples = packed f m i n;
+    }
+
+-- with so much room for numbers of records, and for samples
+unfoldable pub coloured : List ℕ → Jp2 → Image → ℕ → ℕ → Finishing
+coloured f m i records samples =
+    let n = channels m (i .count) in
+    let wrong = lowest (misnamed f m (i .count)) (m .lists .cdef .count) in
+    let lacking = lowest (undefined f m) n in
+    let astray = lowest (mismapped f m (i .count)) (m .lists .cmap .count) in
+    let blank = lowest (dataless f m i) (m .lists .cmap .count) in
+    let needed = startOf f m i n in
+    table
+    (wrong <? m .lists .cdef .count ⇒ declined 25 wrong
+    ∣ lacking <? n ⇒ declined 26 lacking
+    ∣ astray <? m .lists .cmap .count ⇒ declined 27 astray
+    ∣ blank <? m .lists .cmap .count ⇒ declined 28 blank
+    ∣ records <? 13 * n ⇒ declined 30 (13 * n)
+    ∣ 4294967294 <? needed or samples <? needed ⇒ declined 30 needed
+    ∣ otherwise (finished (picture f m i)))
+
+-- the file, the record from reading it, the ignore flag, the picture, and the lengths of the two destinations
+unfoldable pub finish : List ℕ → Jp2 → ℕ → Image → ℕ → ℕ → Finishing
+finish f m ignore i records samples =
+    table
+    (outsideLists i or outsideFile f m ⇒ declined 29 0
+    ∣ otherwise (coloured f (counted ignore m) i records samples))

@@ -1,0 +1,9 @@
+pub mod Image
+pub mod Channels
+pub mod Samples
+pub mod Check
+pub mod Finish
+pub mod Words
+pub mod PictureRule
+pub mod OrderFreedom
+pub mod Met
