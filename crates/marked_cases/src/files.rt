@@ -1,0 +1,62 @@
+// The boxes of the marked cases, written into a list that is lent and holds only zeros.
+pub const IHDR: u32 = 0x69686472;
+
+pub const JP2C: u32 = 0x6a703263;
+
+// 'free', a type that no reader knows.
+pub const FREE: u32 = 0x66726565;
+
+// LBox and TBox.
+pub fn head(d: &mut [u8], at: u32, length: u32, ty: u32) {
+    jp2_cio::opj_write_bytes(d, at as usize, length, 4);
+    jp2_cio::opj_write_bytes(d, at as usize + 4, ty, 4);
+}
+
+// LBox 1, TBox and XLBox.
+pub fn extended(d: &mut [u8], at: u32, ty: u32, length: u32) {
+    head(d, at, 1, ty);
+    jp2_cio::opj_write_bytes(d, at as usize + 12, length, 4);
+}
+
+// The signature, and ftyp with one entry in its list.
+pub fn start(d: &mut [u8]) {
+    head(d, 0, 12, 0x6a502020);
+    jp2_cio::opj_write_bytes(d, 8, 0x0d0a870a, 4);
+    head(d, 12, 20, 0x66747970);
+    jp2_cio::opj_write_bytes(d, 20, 0x6a703220, 4);
+    jp2_cio::opj_write_bytes(d, 28, 0x6a703220, 4);
+}
+
+// All but the content of jp2h, a box of a length, which begins at 40. Gives the file's length.
+pub fn picture(d: &mut [u8], length: u32) -> usize {
+    start(d);
+    head(d, 32, length, 0x6a703268);
+    jp2_cio::opj_write_bytes(d, length as usize + 32, 8, 4);
+    jp2_cio::opj_write_bytes(d, length as usize + 36, JP2C, 4);
+    length as usize + 40
+}
+
+// Height 3, width 2, the count, 8 bits.
+pub fn ihdr(d: &mut [u8], at: u32, length: u32, count: u32) {
+    head(d, at, length, IHDR);
+    jp2_cio::opj_write_bytes(d, at as usize + 8, 3, 4);
+    jp2_cio::opj_write_bytes(d, at as usize + 12, 2, 4);
+    jp2_cio::opj_write_bytes(d, at as usize + 16, count, 2);
+    jp2_cio::opj_write_bytes(d, at as usize + 18, 7, 1);
+    jp2_cio::opj_write_bytes(d, at as usize + 19, 7, 1);
+}
+
+// Method 1, and the colour space grey.
+pub fn colr(d: &mut [u8], at: u32) {
+    head(d, at, 15, 0x636f6c72);
+    jp2_cio::opj_write_bytes(d, at as usize + 8, 1, 1);
+    jp2_cio::opj_write_bytes(d, at as usize + 11, 17, 4);
+}
+
+// One column of a width byte, after an ihdr; all entries are 0.
+pub fn pclr(d: &mut [u8], length: u32, entries: u32, width: u32) {
+    head(d, 62, length, 0x70636c72);
+    jp2_cio::opj_write_bytes(d, 70, entries, 2);
+    jp2_cio::opj_write_bytes(d, 72, 1, 1);
+    jp2_cio::opj_write_bytes(d, 73, width, 1);
+}
