@@ -7,14 +7,14 @@ use native.Mathlib.Omega.{arith}
 use native.Mathlib.Decide.{ℕ-discrete}
 use lib.ListN.{length, getD, set, length-set}
 use lib.Seq.{getD-set-same, getD-set-other}
-use Rattle.jp2_cio.specs.Table.{Test, _=?_, _<?_, _or_, _and_, Rows, otherwise, _⇒_∣_, table}
+use Rattle.jp2_cio.specs.Table.{_=?_, _<?_, _or_, _and_, Rows, otherwise, _⇒_∣_, table}
 use Rattle.jp2_cio.proofs.Rows.{Reaches, entry, row, each}
 use Rattle.jp2_order.specs.Definitions.{Def}
 use Rattle.jp2_order.specs.Order.{Arranged, exchange, swapped, marked, define}
 use Rattle.jp2_cdef.specs.Flat.{numberOf}
 use Rattle.jp2_cdef.specs.Steps.{Exchanged, Room, Agree}
 use Rattle.jp2_order.proofs.Exchange
-use Rattle.jp2_cdef.proofs.Swapping.{swap, getD-swap}
+use Rattle.jp2_cdef.proofs.Swapping.{getD-swap}
 
 -- `define`, by the first of its rows whose test holds
 abbrev pub rows : ℕ → Def → ℕ → Arranged → Rows Arranged

@@ -10,12 +10,12 @@ use borrow.Author.Tests.{ltb-true, ltb-false}
 use lib.Dec.{ltb}
 use lib.ListN.{length, getD, drop, length-append, length-drop, List·getD-append}
 use lib.Seq.{getD-at, getD-append-add, getD-drop, ext-getD}
-use Rattle.jp2_cio.specs.Table.{Test, _=?_, _and_, Rows, otherwise, _⇒_∣_, table}
+use Rattle.jp2_cio.specs.Table.{_=?_, _and_, otherwise, _⇒_∣_, table}
 use Rattle.jp2_cio.proofs.Rows.{row, each, either}
 use Rattle.jp2_record.specs.declared.Span.{Span}
 use Rattle.jp2_palette.specs.Cdef.{Cn, Typ, Asoc}
 use Rattle.jp2_order.specs.Definitions.{Def, def, definition, definitions, definitionsTo}
-use Rattle.jp2_order.specs.Order.{Arranged, exchange, define, run, arranged}
+use Rattle.jp2_order.specs.Order.{Arranged, define, run, arranged}
 use Rattle.jp2_cdef.specs.Flat.{numberOf, listed, reordered}
 use Rattle.jp2_cdef.specs.Steps.{Agree}
 use Rattle.jp2_order.proofs.Exchange

@@ -2,12 +2,12 @@
 use Prim.Native.Nat.{ℕ, zero, suc, _+_, _*_, _/_, _%_}
 use mathlib.Core.List.{List, [], _∷_, _++_}
 use lib.ListN.{length, getD, drop}
-use Rattle.jp2_cio.specs.Table.{Test, _<?_, _or_, Rows, otherwise, _⇒_∣_, table}
+use Rattle.jp2_cio.specs.Table.{Test, _<?_, _or_, otherwise, _⇒_∣_, table}
 use Rattle.jp2_record.specs.declared.Span.{Span}
 use Rattle.jp2_record.specs.declared.Answer.{Answer}
 use Rattle.jp2_record.specs.declared.Answer.the-variants.{Done, Refused}
 use Rattle.jp2_order.specs.Definitions.{definitions}
-use Rattle.jp2_order.specs.Order.{Arranged, arranged}
+use Rattle.jp2_order.specs.Order.{arranged}
 
 -- number k of record r
 abbrev pub numberOf : List ℕ → ℕ → ℕ → ℕ

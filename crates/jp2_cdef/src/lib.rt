@@ -3,7 +3,7 @@
 // takes as many steps as there are definitions and channels.
 ghost use mathlib.Core.Path.{_≡_};
 ghost use Prim.Native.Nat.{ℕ, _+_, _*_, _≤_, _<_};
-ghost use lib.ListN.{length, getD, set};
+ghost use lib.ListN.{getD, set};
 ghost use Rattle.jp2_order.specs.Definitions.{def};
 ghost use Rattle.jp2_cdef.specs.Flat.{reordered, answered, afterwards};
 ghost use Rattle.jp2_cdef.specs.Steps.{Exchanged, Room, Defined};

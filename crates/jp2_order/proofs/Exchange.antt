@@ -6,7 +6,7 @@ use native.Mathlib.Decide.{ℕ-discrete}
 use native.Mathlib.Omega.{arith}
 use lib.Dec.{ltb}
 use borrow.Author.Tests.{lt-ltb}
-use Rattle.jp2_cio.specs.Table.{Test, _=?_, Rows, otherwise, _⇒_∣_, table}
+use Rattle.jp2_cio.specs.Table.{_=?_, otherwise, _⇒_∣_}
 use Rattle.jp2_cio.proofs.Rows.{row, each}
 use Rattle.jp2_order.specs.Order.{exchange}
 

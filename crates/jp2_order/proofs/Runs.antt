@@ -1,15 +1,14 @@
 -- A run of definitions: each channel keeps one position and each position one channel; a colour definition's channel lands and stays; definitions that are apart may change places.
 -- Assumes nothing.
-use Prim.Native.Nat.{ℕ, zero, suc, _-_, _≤_, _<_}
+use Prim.Native.Nat.{ℕ, _-_, _≤_, _<_}
 use mathlib.Core.Path.{_≡_, refl, ap, sym, _∙_}
-use mathlib.Core.Bool.{true}
 use mathlib.Core.List.{List, [], _∷_, _++_}
-use mathlib.Core.Logic.{_⊎_, inl, inr, ⊎-elim}
+use mathlib.Core.Logic.{⊎-elim}
 use native.Mathlib.Omega.{arith}
 use lib.Dec.{ltb}
 use borrow.Author.Tests.{lt-ltb, ltb-true}
 use Rattle.jp2_order.specs.Definitions.{Def, Colour, times, Reordered}
-use Rattle.jp2_order.specs.Order.{Arranged, exchange, define, run, arranged}
+use Rattle.jp2_order.specs.Order.{Arranged, define, run, arranged}
 use Rattle.jp2_order.specs.Rules.{Once}
 use Rattle.jp2_order.proofs.Exchange
 use Rattle.jp2_order.proofs.Steps.{Apart, step, steps, moving, undone, within, commute, follows}

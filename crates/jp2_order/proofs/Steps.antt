@@ -1,11 +1,11 @@
 -- What one definition does to a position, and that `define` does so to every channel and, marks aside, to every record.
 -- Assumes nothing.
-use Prim.Native.Nat.{ℕ, _-_, _+_, _≤_, _<_}
+use Prim.Native.Nat.{ℕ, _-_, _+_, _<_}
 use mathlib.Core.Path.{_≡_, refl, ap, sym, _∙_}
 use mathlib.Core.Bool.{Bool, true, false}
 use native.Mathlib.Omega.{arith}
 use lib.Dec.{ltb}
-use Rattle.jp2_cio.specs.Table.{Test, _=?_, _≠?_, _<?_, _or_, _and_, Rows, otherwise, _⇒_∣_, holds, pick, table}
+use Rattle.jp2_cio.specs.Table.{Test, _=?_, _≠?_, _<?_, _and_, otherwise, _⇒_∣_, holds, pick}
 use Rattle.jp2_cio.proofs.Rows.{Says, either, said, shown, row, each}
 use Rattle.jp2_order.specs.Definitions.{Def, Colour}
 use Rattle.jp2_order.specs.Order.{Arranged, exchange, swapped, marked, define}

@@ -2,7 +2,7 @@
 use Prim.Native.Nat.{ℕ, zero, suc}
 use mathlib.Core.Path.{_≡_, refl}
 use mathlib.Core.List.{List, [], _∷_, _++_}
-use Rattle.jp2_cio.specs.Table.{Test, _=?_, Rows, otherwise, _⇒_∣_, table}
+use Rattle.jp2_cio.specs.Table.{_=?_, otherwise, _⇒_∣_, table}
 use Rattle.jp2_order.specs.Definitions.{Def, def}
 use Rattle.jp2_order.specs.Order.{exchange, define, run, arranged}
 

@@ -6,4 +6,5 @@ pub mod Finish
 pub mod Words
 pub mod PictureRule
 pub mod OrderFreedom
+pub mod Cases
 pub mod Met

@@ -61,7 +61,7 @@ sub-q c = search needs
 swap13-requires : tie.Need-swap13-requires
 swap13-requires c κs =
     let b = c .before .before .before .before .before .before .before .before .before .before in
-    (lies (b .args .n) (b .args .recs .now) (b .args .seat .now) (b .args .held .now) (b .args .c) (b .args .typ) (b .args .asoc) (b .pre) (omega arith), omega arith)
+    omega (arith, lies (b .args .n) (b .args .recs .now) (b .args .seat .now) (b .args .held .now) (b .args .c) (b .args .typ) (b .args .asoc) (b .pre) (omega arith))
 
 reseat-requires : tie.Need-reseat-requires
 reseat-requires c κs =

@@ -1,6 +1,6 @@
 -- `jp2_cdef::reorder` meets its contract. The loop's invariant: the lists say what the first i definitions make of the records.
 -- Assumes nothing.
-use Prim.Native.Nat.{_*_, _-_, _≤_}
+use Prim.Native.Nat.{_-_, _≤_}
 use mathlib.Core.Path.{_≡_, refl, _∙_, subst}
 use native.Mathlib.Omega.{arith}
 use borrow.Author.Needs.{needs}
@@ -37,7 +37,6 @@ begin-requires-2 c κs = search needs
 loop-holds : tie.Need-loop-holds Inv-loop μ-loop
 unfolding definitionsTo run
 loop-holds c =
-    let b = c .before .before .before .before .before .before .before .before in
     let s = c .before .before .before .before .begin in
     let h = c .before .begin2 in (
       omega arith,

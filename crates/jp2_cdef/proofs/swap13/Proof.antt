@@ -3,7 +3,7 @@
 use Prim.Native.Nat.{_≤_, _-_}
 use native.Mathlib.Omega.{arith}
 use borrow.Author.Needs.{needs}
-use lib.ListN.{length, length-set}
+use lib.ListN.{length-set}
 use Rattle.jp2_cdef.proofs.Swapping.{Partly, partly-none, partly-more}
 use Rattle.jp2_cdef.proofs.swap13.Statement.{statement}
 use Rattle.jp2_cdef.proofs.swap13.Tie as tie

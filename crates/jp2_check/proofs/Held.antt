@@ -1,0 +1,78 @@
+-- What is known of a record whose lists lie in the file, and of its answers.
+-- Assumes nothing.
+use Prim.Native.Nat.{ℕ, _≤_, _<_}
+use native.Mathlib.Omega.{arith}
+use mathlib.Core.Path.{_≡_, ap, _∙_}
+use mathlib.Core.Bool.{Bool, false}
+use mathlib.Core.List.{List}
+use Rattle.jp2_cio.specs.Table.{_and_, holds}
+use Rattle.jp2_cio.proofs.Rows.{Says, row, each}
+use Rattle.jp2_record.specs.declared.Jp2.{Jp2}
+use Rattle.jp2_picture.specs.Channels.{lowest, mapped, channels, corrected}
+use Rattle.jp2_picture.specs.Check.{misnamed, undefined, mismapped}
+use Rattle.jp2_picture.specs.Finish.{outsideFile}
+use Rattle.jp2_check.specs.declared.Checked.the-variants.{Passed, Refused}
+use Rattle.jp2_check.specs.Checked.{checked}
+use Rattle.jp2_check.specs.Parts.{Inside, misnamedAt, undefinedAt, Named}
+use Rattle.jp2_check.proofs.Lowest.{lowest-past}
+
+module _ (f : List ℕ) (m : Jp2) (o : Says false (outsideFile f m)) where
+  pub definitions-inside : Inside 6 f (m .lists .cdef)
+  definitions-inside h = o .1 .1 (λ z. omega arith) .1
+
+  pub definitions-few : 0 < m .lists .cdef .count → m .lists .cdef .count ≤ 65535
+  definitions-few h = o .1 .1 (λ z. omega arith) .0
+
+  pub mappings-inside : Inside 4 f (m .lists .cmap)
+  mappings-inside h = o .1 .0 (λ z. omega arith) .1
+
+  mappings-columns : 0 < m .lists .cmap .count → m .lists .cmap .count ≡ m .lists .pclr .columns
+  mappings-columns h = o .1 .0 (λ z. omega arith) .0
+
+  columns-few : 0 < m .lists .pclr .columns → m .lists .pclr .columns ≤ 255
+  columns-few h = o .0 (λ z. omega arith) .1 .1 .0
+
+  pub mappings-few : 0 < m .lists .cmap .count → m .lists .cmap .count ≤ 255
+  mappings-few h = let e = mappings-columns h in omega (arith, columns-few (omega arith))
+
+  channels-few : (n : ℕ) → n ≤ 16384 → channels m n ≤ 16384
+  unfolding channels
+  channels-few n h =
+      each (λ (x : ℕ). x ≤ 16384) _ ((λ p. let b : 0 < m .lists .cmap .count = omega arith in let e = mappings-columns b in omega (arith, mappings-few b)), λ p. omega arith)
+
+  -- where no definition is misnamed
+  pub all-named : (n : ℕ) {k w : ℕ} → n ≤ 16384 → k ≡ channels m n → w ≡ lowest (misnamedAt f (m .lists .cdef) k) (m .lists .cdef .count) → m .lists .cdef .count ≤ w
+      → Named f (m .lists .cdef) k
+  all-named n {k} {w} h e d b =
+      record {
+        inside = definitions-inside;
+        below = λ j a. let p = lowest-past (misnamedAt f (m .lists .cdef) k) (m .lists .cdef .count) j (omega arith) .0 in omega arith;
+        most = omega (arith, channels-few n h);
+      }
+
+-- the answers of the checks, where nothing was refused before: k is the number of channels, and w, l and a are what was looked for first
+module _ (f : List ℕ) (m : Jp2) (n : ℕ) (few : n ≤ 16384) (o : Says false (outsideFile f m)) {k w : ℕ} (e : k ≡ channels m n)
+    (d : w ≡ lowest (misnamedAt f (m .lists .cdef) k) (m .lists .cdef .count)) where
+  wrong-same : w ≡ lowest (misnamed f m n) (m .lists .cdef .count)
+  wrong-same = d ∙ ap (λ (x : ℕ). lowest (misnamedAt f (m .lists .cdef) x) (m .lists .cdef .count)) e
+
+  pub answer-25 : w < m .lists .cdef .count → Refused 25 w ≡ checked f m n
+  unfolding checked
+  answer-25 b = let q = wrong-same in row 1 _ ((few, o), omega arith) (ap (Refused 25) q)
+
+  module _ {l : ℕ} (named : m .lists .cdef .count ≤ w) (g : l ≡ lowest (undefinedAt f (m .lists .cdef)) k) where
+    lacking-same : l ≡ lowest (undefined f m) (channels m n)
+    lacking-same = g ∙ ap (lowest (undefinedAt f (m .lists .cdef))) e
+
+    pub answer-26 : l < k → Refused 26 l ≡ checked f m n
+    unfolding checked
+    answer-26 b = let q = wrong-same in let r = lacking-same in row 2 _ ((few, o), (omega arith, omega arith)) (ap (Refused 26) r)
+
+    module _ {a : ℕ} (defined : k ≤ l) (s : a ≡ lowest (mismapped f m n) (m .lists .cmap .count)) where
+      pub answer-27 : a < m .lists .cmap .count → Refused 27 a ≡ checked f m n
+      unfolding checked
+      answer-27 b = let q = wrong-same in let r = lacking-same in row 3 _ ((few, o), (omega arith, (omega arith, omega arith))) (ap (Refused 27) s)
+
+      pub answer-passed : {b : Bool} → m .lists .cmap .count ≤ a → b ≡ holds (mapped m and corrected f m n) → Passed b ≡ checked f m n
+      unfolding checked
+      answer-passed h p = let q = wrong-same in let r = lacking-same in row 4 _ ((few, o), (omega arith, (omega arith, (omega arith, tt)))) (ap Passed p)

@@ -1,0 +1,32 @@
+-- `jp2_check::definitions_outside` meets its contract.
+-- Assumes nothing.
+use native.Mathlib.Omega.{arith}
+use borrow.Author.Needs.{needs}
+use Prim.Native.Nat.{_+_, _*_}
+use mathlib.Core.Path.{_∙_}
+use mathlib.Core.Bool.{true, false}
+use lib.ListN.{length}
+use Rattle.jp2_cio.specs.Table.{_<?_}
+use Rattle.jp2_check.specs.Parts.{definitionsOutside}
+use Rattle.jp2_check.proofs.Answers.{shown, same}
+use Rattle.jp2_check.proofs.definitions_outside.Statement.{statement}
+use Rattle.jp2_check.proofs.definitions_outside.Tie as tie
+
+returns : tie.Need-returns
+returns c = shown false (definitionsOutside (c .before .before .args .f .now) (c .before .before .args .l)) (omega arith)
+
+returns-2 : tie.Need-returns-2
+returns-2 c = shown true (definitionsOutside (c .before .before .before .args .f .now) (c .before .before .before .args .l)) (omega arith)
+
+mul-outside : tie.Need-mul-outside
+mul-outside c = search needs
+
+outside-requires : tie.Need-outside-requires
+outside-requires c κs = search needs
+
+returns-3 : tie.Need-returns-3
+returns-3 c = let a = c .before .before .before .before .args in c .outside .ensures ∙ same (length (a .f .now) <? a .l .place + 6 * a .l .count) (definitionsOutside (c .before .before .before .before .args .f .now) (c .before .before .before .before .args .l)) (λ h. omega arith) (λ h. omega arith)
+
+pub definitions-outside-spec : {M : Type 1} → statement M
+definitions-outside-spec =
+    tie.close (tie.spec returns returns-2 mul-outside outside-requires returns-3)

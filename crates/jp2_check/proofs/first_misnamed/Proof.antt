@@ -1,0 +1,54 @@
+-- `jp2_check::first_misnamed` meets its contract.
+-- Assumes nothing.
+use native.Mathlib.Omega.{arith}
+use Prim.Native.Nat.{ℕ, _-_, _≤_, _<_}
+use mathlib.Core.Path.{sym, _∙_}
+use mathlib.Core.Bool.{true, false}
+use borrow.Author.Count.{below-more}
+use Rattle.jp2_cio.proofs.Rows.{Says}
+use Rattle.jp2_check.specs.Parts.{misnamedAt}
+use Rattle.jp2_check.proofs.Answers.{said}
+use Rattle.jp2_check.proofs.Lowest.{lowest-none, lowest-first}
+use Rattle.jp2_check.proofs.first_misnamed.Statement.{statement}
+use Rattle.jp2_check.proofs.first_misnamed.Tie as tie
+
+abbrev Inv-loop : tie.InvT-loop
+Inv-loop f l k count j₀ j = (j ≤ count) × ((i : ℕ) → i < j → Says false (misnamedAt f l k i))
+
+abbrev μ-loop : tie.MeasureT-loop
+μ-loop f l k count j₀ j = count - j
+
+loop-holds : tie.Need-loop-holds Inv-loop μ-loop
+loop-holds c = (omega arith, λ i h. absurd (omega arith))
+
+is-misnamed-requires : tie.Need-is-misnamed-requires Inv-loop μ-loop
+is-misnamed-requires c κs = omega (arith, c .before .before .before .pre (omega arith))
+
+returns : tie.Need-returns Inv-loop μ-loop
+returns c = lowest-first (misnamedAt (c .before .before .before .before .before .args .f .now) (c .before .before .before .before .before .args .l) (c .before .before .before .before .before .args .k)) (c .before .before .before .loop .j) (c .before .before .before .before .before .args .l .count) (c .before .before .before .loop .inv .1) (said true (misnamedAt (c .before .before .before .before .before .args .f .now) (c .before .before .before .before .before .args .l) (c .before .before .before .before .before .args .k) (c .before .before .before .loop .j)) (sym (c .if1 .taken) ∙ c .before .is-misnamed .ensures)) (omega arith)
+
+add-j : tie.Need-add-j Inv-loop μ-loop
+add-j c = omega arith
+
+loop-less : tie.Need-loop-less Inv-loop μ-loop
+loop-less c = omega arith
+
+loop-again : tie.Need-loop-again Inv-loop μ-loop
+loop-again c = (omega arith, below-more (λ i. Says false (misnamedAt (c .before .before .before .before .before .args .f .now) (c .before .before .before .before .before .args .l) (c .before .before .before .before .before .args .k) i)) (c .before .before .before .loop .j) (c .before .before .before .loop .inv .1) (said false (misnamedAt (c .before .before .before .before .before .args .f .now) (c .before .before .before .before .before .args .l) (c .before .before .before .before .before .args .k) (c .before .before .before .loop .j)) (sym (c .if1 .left) ∙ c .before .is-misnamed .ensures)))
+
+returns-2 : tie.Need-returns-2 Inv-loop μ-loop
+returns-2 c = lowest-none (misnamedAt (c .before .before .before .args .f .now) (c .before .before .before .args .l) (c .before .before .before .args .k)) (c .before .before .before .args .l .count) (λ i h. c .before .loop .inv .1 i (omega arith))
+
+pub first-misnamed-spec : {M : Type 1} → statement M
+first-misnamed-spec =
+    tie.close
+    (tie.spec
+    Inv-loop
+    μ-loop
+    loop-holds
+    is-misnamed-requires
+    returns
+    add-j
+    loop-less
+    loop-again
+    returns-2)

@@ -1,0 +1,67 @@
+-- `jp2_check::is_mismapped` meets its contract.
+-- Assumes nothing.
+use native.Mathlib.Omega.{arith}
+use borrow.Author.Needs.{needs}
+use mathlib.Core.Bool.{true}
+use Rattle.jp2_cio.specs.Table.{_≠?_}
+use Rattle.jp2_check.specs.Parts.{mismappedAt}
+use Rattle.jp2_check.proofs.Answers.{shown, same}
+use Rattle.jp2_check.proofs.is_mismapped.Statement.{statement}
+use Rattle.jp2_check.proofs.is_mismapped.Tie as tie
+
+mul-at : tie.Need-mul-at
+mul-at c = search needs
+
+add-at : tie.Need-add-at
+add-at c = search needs
+
+read-u16-requires : tie.Need-read-u16-requires
+read-u16-requires c κs = search needs
+
+cast-component : tie.Need-cast-component
+cast-component c = search needs
+
+add-read-u8 : tie.Need-add-read-u8
+add-read-u8 c = search needs
+
+read-u8-requires : tie.Need-read-u8-requires
+read-u8-requires c κs = search needs
+
+add-read-u8-2 : tie.Need-add-read-u8-2
+add-read-u8-2 c = search needs
+
+read-u8-requires-2 : tie.Need-read-u8-requires-2
+read-u8-requires-2 c κs = search needs
+
+cast-pcol : tie.Need-cast-pcol
+cast-pcol c = search needs
+
+returns : tie.Need-returns
+returns c = shown true (mismappedAt (c .before .before .before .before .before .before .args .f .now) (c .before .before .before .before .before .before .args .l) (c .before .before .before .before .before .before .args .n) (c .before .before .before .before .before .before .args .c)) (omega arith)
+
+returns-2 : tie.Need-returns-2
+returns-2 c = same (c .before .before .read-u82 .result ≠? 0) (mismappedAt (c .before .before .before .before .before .before .before .args .f .now) (c .before .before .before .before .before .before .before .args .l) (c .before .before .before .before .before .before .before .args .n) (c .before .before .before .before .before .before .before .args .c)) (λ h. omega arith) (λ h. (omega arith, λ g. absurd (g (omega arith) (omega arith))))
+
+returns-3 : tie.Need-returns-3
+returns-3 c = same (c .before .before .before .read-u82 .result ≠? c .before .before .before .before .before .before .before .before .args .c) (mismappedAt (c .before .before .before .before .before .before .before .before .args .f .now) (c .before .before .before .before .before .before .before .before .args .l) (c .before .before .before .before .before .before .before .before .args .n) (c .before .before .before .before .before .before .before .before .args .c)) (λ h. omega arith) (λ h. (omega arith, λ g. omega arith))
+
+returns-4 : tie.Need-returns-4
+returns-4 c = shown true (mismappedAt (c .before .before .before .before .before .before .before .before .args .f .now) (c .before .before .before .before .before .before .before .before .args .l) (c .before .before .before .before .before .before .before .before .args .n) (c .before .before .before .before .before .before .before .before .args .c)) (omega arith)
+
+pub is-mismapped-spec : {M : Type 1} → statement M
+is-mismapped-spec =
+    tie.close
+    (tie.spec
+    mul-at
+    add-at
+    read-u16-requires
+    cast-component
+    add-read-u8
+    read-u8-requires
+    add-read-u8-2
+    read-u8-requires-2
+    cast-pcol
+    returns
+    returns-2
+    returns-3
+    returns-4)

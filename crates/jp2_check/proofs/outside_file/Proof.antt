@@ -1,0 +1,37 @@
+-- `jp2_check::outside_file` meets its contract.
+-- Assumes nothing.
+use borrow.Author.Needs.{needs}
+use Rattle.jp2_cio.specs.Table.{_or_}
+use Rattle.jp2_check.specs.Parts.{paletteOutside, mappingsOutside, definitionsOutside}
+use Rattle.jp2_check.proofs.Answers.{or-taken, or-left}
+use Rattle.jp2_check.proofs.outside_file.Statement.{statement}
+use Rattle.jp2_check.proofs.outside_file.Tie as tie
+
+palette-outside-requires : tie.Need-palette-outside-requires
+palette-outside-requires c κs = search needs
+
+returns : tie.Need-returns
+returns c = or-taken (paletteOutside (c .before .before .before .before .args .f .now) (c .before .before .before .before .args .m .lists .pclr)) ((mappingsOutside (c .before .before .before .before .args .f .now) (c .before .before .before .before .args .m .lists .cmap) (c .before .before .before .before .args .m .lists .pclr .columns)) or (definitionsOutside (c .before .before .before .before .args .f .now) (c .before .before .before .before .args .m .lists .cdef))) (c .before .palette-outside .ensures) (c .if1 .taken)
+
+mappings-outside-requires : tie.Need-mappings-outside-requires
+mappings-outside-requires c κs = search needs
+
+returns-2 : tie.Need-returns-2
+returns-2 c = or-left (paletteOutside (c .before .before .before .before .before .before .args .f .now) (c .before .before .before .before .before .before .args .m .lists .pclr)) ((mappingsOutside (c .before .before .before .before .before .before .args .f .now) (c .before .before .before .before .before .before .args .m .lists .cmap) (c .before .before .before .before .before .before .args .m .lists .pclr .columns)) or (definitionsOutside (c .before .before .before .before .before .before .args .f .now) (c .before .before .before .before .before .before .args .m .lists .cdef))) (c .before .before .before .palette-outside .ensures) (c .before .before .if1 .left) (or-taken (mappingsOutside (c .before .before .before .before .before .before .args .f .now) (c .before .before .before .before .before .before .args .m .lists .cmap) (c .before .before .before .before .before .before .args .m .lists .pclr .columns)) (definitionsOutside (c .before .before .before .before .before .before .args .f .now) (c .before .before .before .before .before .before .args .m .lists .cdef)) (c .before .mappings-outside .ensures) (c .if2 .taken))
+
+definitions-outside-requires : tie.Need-definitions-outside-requires
+definitions-outside-requires c κs = search needs
+
+returns-3 : tie.Need-returns-3
+returns-3 c = or-left (paletteOutside (c .before .before .before .before .before .before .before .args .f .now) (c .before .before .before .before .before .before .before .args .m .lists .pclr)) ((mappingsOutside (c .before .before .before .before .before .before .before .args .f .now) (c .before .before .before .before .before .before .before .args .m .lists .cmap) (c .before .before .before .before .before .before .before .args .m .lists .pclr .columns)) or (definitionsOutside (c .before .before .before .before .before .before .before .args .f .now) (c .before .before .before .before .before .before .before .args .m .lists .cdef))) (c .before .before .before .before .palette-outside .ensures) (c .before .before .before .if1 .left) (or-left (mappingsOutside (c .before .before .before .before .before .before .before .args .f .now) (c .before .before .before .before .before .before .before .args .m .lists .cmap) (c .before .before .before .before .before .before .before .args .m .lists .pclr .columns)) (definitionsOutside (c .before .before .before .before .before .before .before .args .f .now) (c .before .before .before .before .before .before .before .args .m .lists .cdef)) (c .before .before .mappings-outside .ensures) (c .before .if2 .left) (c .definitions-outside .ensures))
+
+pub outside-file-spec : {M : Type 1} → statement M
+outside-file-spec =
+    tie.close
+    (tie.spec
+    palette-outside-requires
+    returns
+    mappings-outside-requires
+    returns-2
+    definitions-outside-requires
+    returns-3)

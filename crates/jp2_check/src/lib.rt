@@ -1,0 +1,292 @@
+// The checks of a picture's palette, mappings and definitions (`opj_jp2_check_color` of jp2.rs), before any plane is touched.
+ghost use Prim.Native.Nat.{ℕ, _+_, _*_, _≤_, _<_};
+ghost use mathlib.Core.Path.{_≡_};
+ghost use lib.ListN.{length, getD};
+ghost use Rattle.jp2_cio.specs.Table.{_<?_, holds};
+ghost use Rattle.jp2_picture.specs.Channels.{lowest, channels};
+ghost use Rattle.jp2_picture.specs.Finish.{outsideFile};
+ghost use Rattle.jp2_check.specs.Checked.{checked};
+ghost use Rattle.jp2_check.specs.Parts.{paletteOutside, mappingsOutside, definitionsOutside, Inside, misnamedAt, mismappedAt, directAt, correctedAt, undefinedAt, unmarked, mark, Markable, Named};
+use jp2_record::Jp2;
+use jp2_record::Palette;
+use jp2_record::Span;
+
+// What the checks answer: whether the mappings are to be corrected, or document 01's number and the index.
+pub enum Checked {
+    Passed(bool),
+    Refused(u32, u32),
+}
+
+// Whether so many bytes at a place do not lie in f.
+fn outside(f: &[u8], place: usize, size: usize) -> bool
+    ensures { λ r. ⌜ r ≡ holds (length (now (f .entry)) <? place + size) ⌝ }
+{
+    if f.len() < size {
+        return true;
+    }
+    if f.len() - size < place {
+        return true;
+    }
+    false
+}
+
+// Whether a palette is one that no reader gives, or does not lie in f.
+fn palette_outside(f: &[u8], p: Palette) -> bool
+    ensures { λ r. ⌜ r ≡ holds (paletteOutside (now (f .entry)) p) ⌝ }
+{
+    let place = p.place;
+    let entries = p.entries as usize;
+    let columns = p.columns as usize;
+    if columns == 0 {
+        return false;
+    }
+    if entries == 0 {
+        return true;
+    }
+    if 1024 < entries {
+        return true;
+    }
+    if 255 < columns {
+        return true;
+    }
+    let row = jp2_palette::row_bytes(jp2_cio::part(f, place, f.len()), 0, columns as u8);
+    outside(f, place, columns + entries * row)
+}
+
+// Whether a list of mappings is one that no reader gives for a palette of so many columns, or does not lie in f.
+fn mappings_outside(f: &[u8], l: Span, columns: u32) -> bool
+    ensures { λ r. ⌜ r ≡ holds (mappingsOutside (now (f .entry)) l columns) ⌝ }
+{
+    let place = l.place;
+    let count = l.count;
+    if count == 0 {
+        return false;
+    }
+    if count != columns as usize {
+        return true;
+    }
+    outside(f, place, 4 * count)
+}
+
+// Whether a list of definitions is one that no reader gives, or does not lie in f.
+fn definitions_outside(f: &[u8], l: Span) -> bool
+    ensures { λ r. ⌜ r ≡ holds (definitionsOutside (now (f .entry)) l) ⌝ }
+{
+    let place = l.place;
+    let count = l.count;
+    if count == 0 {
+        return false;
+    }
+    if 65535 < count {
+        return true;
+    }
+    outside(f, place, 6 * count)
+}
+
+// Whether the record has a palette, mappings or definitions that no reader gives, or that do not lie in f.
+pub fn outside_file(f: &[u8], m: Jp2) -> bool
+    ensures { λ r. ⌜ r ≡ holds (outsideFile (now (f .entry)) m) ⌝ }
+{
+    let lists = m.lists;
+    if palette_outside(f, lists.pclr) {
+        return true;
+    }
+    if mappings_outside(f, lists.cmap, lists.pclr.columns) {
+        return true;
+    }
+    definitions_outside(f, lists.cdef)
+}
+
+// How many channels a picture of n components has.
+fn channel_count(m: Jp2, n: u32) -> u32
+    ensures { λ r. ⌜ r ≡ channels m n ⌝ }
+{
+    let lists = m.lists;
+    if lists.cmap.count != 0 {
+        return lists.pclr.columns;
+    }
+    n
+}
+
+// Whether definition j names a channel, or a colour, that is not below k.
+fn is_misnamed(f: &[u8], l: Span, k: u32, j: usize) -> bool
+    requires { ⌜ l .place + 6 * (j + 1) ≤ length (now f) ⌝ }
+    ensures { λ r. ⌜ r ≡ holds (misnamedAt (now (f .entry)) l k j) ⌝ }
+{
+    let at = l.place + 6 * j;
+    let channel = jp2_cio::read_u16(f, at) as u32;
+    let asoc = jp2_cio::read_u16(f, at + 4) as u32;
+    if k <= channel {
+        return true;
+    }
+    if asoc == 0 {
+        return false;
+    }
+    if asoc == 65535 {
+        return false;
+    }
+    if k < asoc {
+        return true;
+    }
+    false
+}
+
+// The first definition that names a channel, or a colour, that is not below k; the count where none does.
+fn first_misnamed(f: &[u8], l: Span, k: u32) -> usize
+    requires { ⌜ Inside 6 (now f) l ⌝ }
+    ensures { λ r. ⌜ r ≡ lowest (misnamedAt (now (f .entry)) l k) (l .count) ⌝ }
+{
+    let count = l.count;
+    let mut j: usize = 0;
+    while j < count {
+        if is_misnamed(f, l, k, j) {
+            return j;
+        }
+        j = j + 1;
+    }
+    count
+}
+
+// Marks the channel that each definition names.
+fn mark_defined(f: &[u8], l: Span, seen: &mut [u8])
+    requires { ⌜ Markable (now f) l (now seen) ⌝ }
+    ensures { λ _. ⌜ ((c : ℕ) → c < length (now (seen .entry)) → getD (now (seen .exit)) c 0 ≡ mark (now (f .entry)) l (l .count) c) ⌝ }
+{
+    let place = l.place;
+    let count = l.count;
+    let mut j: usize = 0;
+    while j < count {
+        let channel = jp2_cio::read_u16(f, place + 6 * j) as usize;
+        seen[channel] = 1;
+        j = j + 1;
+    }
+}
+
+// The first channel from 1 up, of k, that has no mark; k where each has one.
+fn first_unmarked(seen: &[u8], k: u32) -> u32
+    requires { ⌜ k ≤ length (now seen) ⌝ }
+    ensures { λ r. ⌜ r ≡ lowest (unmarked (now (seen .entry))) k ⌝ }
+{
+    let mut c: u32 = 1;
+    while c < k {
+        if seen[c as usize] == 0 {
+            return c;
+        }
+        c = c + 1;
+    }
+    k
+}
+
+// The first channel from 1 up, of k, that has no definition; k where each has one, and where there are no definitions.
+fn first_undefined(f: &[u8], l: Span, k: u32) -> u32
+    requires { ⌜ Named (now f) l k ⌝ }
+    ensures { λ r. ⌜ r ≡ lowest (undefinedAt (now (f .entry)) l) k ⌝ }
+{
+    if l.count == 0 {
+        return k;
+    }
+    let mut seen = [0u8; 16384];
+    mark_defined(f, l, &mut seen);
+    first_unmarked(&seen, k)
+}
+
+// Whether mapping c has no component, of n, or is neither a direct one nor one to its own column.
+fn is_mismapped(f: &[u8], l: Span, n: u32, c: usize) -> bool
+    requires { ⌜ l .place + 4 * (c + 1) ≤ length (now f) ⌝ }
+    ensures { λ r. ⌜ r ≡ holds (mismappedAt (now (f .entry)) l n c) ⌝ }
+{
+    let at = l.place + 4 * c;
+    let component = jp2_cio::read_u16(f, at) as u32;
+    let mtyp = jp2_cio::read_u8(f, at + 2);
+    let pcol = jp2_cio::read_u8(f, at + 3) as usize;
+    if n <= component {
+        return true;
+    }
+    if mtyp == 0 {
+        return pcol != 0;
+    }
+    if mtyp == 1 {
+        return pcol != c;
+    }
+    true
+}
+
+// The first mapping that fails, with n components; the count where none does.
+fn first_mismapped(f: &[u8], l: Span, n: u32) -> usize
+    requires { ⌜ Inside 4 (now f) l ⌝ }
+    ensures { λ r. ⌜ r ≡ lowest (mismappedAt (now (f .entry)) l n) (l .count) ⌝ }
+{
+    let count = l.count;
+    let mut c: usize = 0;
+    while c < count {
+        if is_mismapped(f, l, n, c) {
+            return c;
+        }
+        c = c + 1;
+    }
+    count
+}
+
+// The first direct mapping from 1 up; the count where there is none.
+fn first_direct(f: &[u8], l: Span) -> usize
+    requires { ⌜ Inside 4 (now f) l ⌝ }
+    ensures { λ r. ⌜ r ≡ lowest (directAt (now (f .entry)) l) (l .count) ⌝ }
+{
+    let place = l.place;
+    let count = l.count;
+    let mut c: usize = 1;
+    while c < count {
+        if jp2_cio::read_u8(f, place + 4 * c + 2) == 0 {
+            return c;
+        }
+        c = c + 1;
+    }
+    count
+}
+
+// Whether the mappings are to be corrected, with n components.
+fn is_corrected(f: &[u8], l: Span, n: u32) -> bool
+    requires { ⌜ Inside 4 (now f) l ⌝ }
+    ensures { λ r. ⌜ r ≡ holds (correctedAt (now (f .entry)) l n) ⌝ }
+{
+    let count = l.count;
+    if count == 0 {
+        return false;
+    }
+    if n != 1 {
+        return false;
+    }
+    if first_direct(f, l) < count {
+        return true;
+    }
+    false
+}
+
+// The checks for a picture of n components, in the order of document 01's table.
+pub fn opj_jp2_check_color(f: &[u8], m: Jp2, n: u32) -> Checked
+    ensures { λ r. ⌜ r ≡ checked (now (f .entry)) m n ⌝ }
+{
+    let lists = m.lists;
+    let definitions = lists.cdef.count;
+    let mappings = lists.cmap.count;
+    if 16384 < n {
+        return Checked::Refused(29, 0);
+    }
+    if outside_file(f, m) {
+        return Checked::Refused(29, 0);
+    }
+    let k = channel_count(m, n);
+    let wrong = first_misnamed(f, lists.cdef, k);
+    if wrong < definitions {
+        return Checked::Refused(25, wrong as u32);
+    }
+    let lacking = first_undefined(f, lists.cdef, k);
+    if lacking < k {
+        return Checked::Refused(26, lacking);
+    }
+    let astray = first_mismapped(f, lists.cmap, n);
+    if astray < mappings {
+        return Checked::Refused(27, astray as u32);
+    }
+    Checked::Passed(is_corrected(f, lists.cmap, n))
+}

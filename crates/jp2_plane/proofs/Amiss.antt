@@ -1,0 +1,45 @@
+-- What keeps samples from being put: what an answer tells of it, and the same tests told in another way.
+-- Assumes nothing.
+use Prim.Native.Nat.{ℕ}
+use mathlib.Core.Path.{_≡_, refl, sym, _∙_}
+use mathlib.Core.Bool.{Bool, true, false, not}
+use mathlib.Core.List.{List}
+use lib.IntN.{ℤ}
+use borrow.Author.Tests.{not-true, not-false, eq-eqb, ne-eqb}
+use Rattle.jp2_cio.specs.Table.{Test, _=?_, _or_, _and_, otherwise, _⇒_∣_, holds, table}
+use Rattle.jp2_cio.proofs.Rows.{Says, true-false, row, each}
+use Rattle.jp2_plane.specs.Plane.{done, put}
+
+-- what a refusal, or its absence, tells of what is amiss
+pub done-true : (t : Test) {b : Bool} → b ≡ done t → not b ≡ false → Says false t
+unfolding done
+done-true t {b} e f = each (λ b. b ≡ true → Says false t) _ ((λ h g. true-false (sym g)), λ h g. h) (sym e ∙ not-false b f)
+
+pub done-false : (t : Test) {b : Bool} → b ≡ done t → not b ≡ true → Says true t
+unfolding done
+done-false t {b} e f = each (λ b. b ≡ false → Says true t) _ ((λ h g. h), λ h g. true-false g) (sym e ∙ not-true b f)
+
+-- the first of two tests suffices
+pub or-first : (s t : Test) → Says true s → Says true (s or t)
+or-first s t h = λ g. true-false (row 1 (s ⇒ false ∣ otherwise true) (g, tt) refl ∙ sym (row 0 (s ⇒ false ∣ otherwise true) h refl))
+
+-- a test that is made for type 1 only
+type-1 : (typ : ℕ) (s t : Test) → typ ≡ 1 → holds (s or t) ≡ holds (typ =? 1 and s or t)
+type-1 typ s t h = rw (eq-eqb typ 1 h)
+
+not-1 : (typ : ℕ) (s t : Test) → (typ ≡ 1 → ⊥) → holds t ≡ holds (typ =? 1 and s or t)
+not-1 typ s t h = rw (ne-eqb typ 1 h)
+
+-- the same is amiss, and the same is put
+same : (s t : Test) (d : List ℤ) (at : ℕ) {xs ys e : List ℤ} {b : Bool} → holds s ≡ holds t → xs ≡ ys → (b ≡ done s) × (e ≡ put s d at xs)
+    → (b ≡ done t) × (e ≡ put t d at ys)
+unfolding done put table
+same s t d at h q p = (rw h at (p .0), rw (h, q) at (p .1))
+
+pub same-looked : (typ : ℕ) (s t : Test) (d : List ℤ) (at : ℕ) {xs ys e : List ℤ} {b : Bool} → typ ≡ 1 → xs ≡ ys → (b ≡ done (s or t)) × (e ≡ put (s or t) d at xs)
+    → (b ≡ done (typ =? 1 and s or t)) × (e ≡ put (typ =? 1 and s or t) d at ys)
+same-looked typ s t d at h = same (s or t) (typ =? 1 and s or t) d at (type-1 typ s t h)
+
+pub same-direct : (typ : ℕ) (s t : Test) (d : List ℤ) (at : ℕ) {xs ys e : List ℤ} {b : Bool} → (typ ≡ 1 → ⊥) → xs ≡ ys → (b ≡ done t) × (e ≡ put t d at xs)
+    → (b ≡ done (typ =? 1 and s or t)) × (e ≡ put (typ =? 1 and s or t) d at ys)
+same-direct typ s t d at h = same t (typ =? 1 and s or t) d at (not-1 typ s t h)

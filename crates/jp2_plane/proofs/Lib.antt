@@ -1,0 +1,4 @@
+pub mod Placing
+pub mod Amiss
+pub mod Entries
+pub mod Columns

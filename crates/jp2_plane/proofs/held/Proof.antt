@@ -1,0 +1,26 @@
+-- `jp2_plane::held` meets its contract.
+-- Assumes nothing.
+use native.Mathlib.Omega.{arith}
+use mathlib.Core.Path.{_≡_, refl, ap, _∙_}
+use mir.Facts.{toZ-ofZ}
+use Rattle.jp2_cio.proofs.Rows.{row}
+use Rattle.jp2_picture.specs.Samples.{floored}
+use borrow.Author.Needs.{needs}
+use Rattle.jp2_plane.proofs.held.Statement.{statement}
+use Rattle.jp2_plane.proofs.held.Tie as tie
+
+floored-requires : tie.Need-floored-requires
+floored-requires c κs = search needs
+
+-- what the call gave, of the sample itself and not of its bits read back
+u-is : (c : tie.After-floored) → c .floored .result ≡ floored (c .before .args .s)
+u-is c = c .floored .ensures ∙ ap floored (toZ-ofZ (c .before .fits .s))
+
+returns : tie.Need-returns
+returns c = let e = u-is (c .before) in row 0 _ (omega arith) e
+
+returns-2 : tie.Need-returns-2
+returns-2 c = let e = u-is (c .before) in row 1 _ (omega arith) refl
+
+pub held-spec : {M : Type 1} → statement M
+held-spec = tie.close (tie.spec floored-requires returns returns-2)

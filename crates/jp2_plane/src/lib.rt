@@ -1,0 +1,199 @@
+// Planes of samples (`opj_jp2_apply_pclr` of jp2.rs): copied, or looked up in a column of the palette, from one lent list of samples to another.
+ghost use Prim.Native.Nat.{_+_, _<_, _≤_};
+ghost use mathlib.Core.Path.{_≡_};
+ghost use mathlib.Core.List.{map};
+ghost use lib.ListN.{length};
+ghost use Rattle.jp2_cio.specs.Table.{_=?_, _<?_, _or_, _and_};
+ghost use Rattle.jp2_picture.specs.Samples.{floored, held, displayed, lookup};
+ghost use Rattle.jp2_plane.specs.Plane.{plane, placed, outside, noColumn, done, put, column, entryFor, valueFor};
+use jp2_record::Palette;
+
+// An entry of a palette as a sample.
+pub fn displayed(e: u32) -> i32
+    ensures { λ r. ⌜ r ≡ displayed e ⌝ }
+{
+    if e < 0x8000_0000 {
+        e as i32
+    } else {
+        ((e - 0x8000_0000) as i32) + (-2147483648)
+    }
+}
+
+// A sample, or 0 where it is below 0.
+fn floored(s: i32) -> u32
+    ensures { λ r. ⌜ r ≡ floored s ⌝ }
+{
+    if s < 0 {
+        return 0;
+    }
+    s as u32
+}
+
+// The index that a sample picks among entries of which the last has the given index.
+pub fn held(s: i32, last: u32) -> u32
+    ensures { λ r. ⌜ r ≡ held s last ⌝ }
+{
+    let u = floored(s);
+    if u < last { u } else { last }
+}
+
+// Whether n elements from a place on lie in a list of the given length.
+fn inside(len: usize, from: usize, n: usize) -> bool
+    ensures { λ r. ⌜ r ≡ done (len <? from + n) ⌝ }
+{
+    if len < n {
+        return false;
+    }
+    if len - n < from {
+        return false;
+    }
+    true
+}
+
+fn copy_inside(src: &[i32], from: usize, n: usize, dst: &mut [i32], at: usize)
+    requires { ⌜ (from + n ≤ length (now src)) × (at + n ≤ length (now dst)) ⌝ }
+    ensures { λ _. ⌜ now (dst .exit) ≡ placed (now (dst .entry)) at (plane (now (src .entry)) from n) ⌝ }
+{
+    let mut k = 0;
+    while k < n {
+        dst[at + k] = src[from + k];
+        k += 1;
+    }
+}
+
+// Copies the n samples of src from a place on to a place of dst; false, with nothing changed, where they do not lie in both.
+pub fn copy_plane(src: &[i32], from: usize, n: usize, dst: &mut [i32], at: usize) -> bool
+    ensures { λ r. ⌜ r ≡ done (outside (now (src .entry)) from n (now (dst .entry)) at) ⌝ }
+    ensures { λ _. ⌜ now (dst .exit) ≡ put (outside (now (src .entry)) from n (now (dst .entry)) at) (now (dst .entry)) at (plane (now (src .entry)) from n) ⌝ }
+{
+    if !inside(src.len(), from, n) {
+        return false;
+    }
+    if !inside(dst.len(), at, n) {
+        return false;
+    }
+    copy_inside(src, from, n, dst, at);
+    true
+}
+
+// Whether column i of the palette is there, and the palette lies in the file f.
+fn has_column(f: &[u8], p: Palette, i: u32) -> bool
+    ensures { λ r. ⌜ r ≡ done (noColumn (now (f .entry)) p i) ⌝ }
+{
+    let place = p.place;
+    let entries = p.entries as usize;
+    let columns = p.columns as usize;
+    if entries == 0 {
+        return false;
+    }
+    if 1024 < entries {
+        return false;
+    }
+    if 255 < columns {
+        return false;
+    }
+    if columns <= i as usize {
+        return false;
+    }
+    if f.len() < place {
+        return false;
+    }
+    let rest = &f[place..];
+    if rest.len() < columns {
+        return false;
+    }
+    if rest.len() - columns < entries * jp2_palette::row_bytes(rest, 0, columns as u8) {
+        return false;
+    }
+    true
+}
+
+// The entries of the palette's column i, as samples, at the front of out.
+fn decode_column(f: &[u8], p: Palette, i: u32, out: &mut [i32])
+    requires { ⌜ (p .place ≤ length (now f)) × (p .entries ≤ 1024) × (p .columns ≤ 255) × (i < p .columns) × (p .entries ≤ length (now out)) ⌝ }
+    ensures { λ _. ⌜ now (out .exit) ≡ placed (now (out .entry)) 0 (column (now (f .entry)) p i (p .entries)) ⌝ }
+{
+    let place = p.place;
+    let entries = p.entries as usize;
+    let columns = p.columns as usize;
+    let rest = &f[place..];
+    let wide = jp2_palette::entry_bytes(jp2_cio::read_u8(rest, i as usize));
+    let row = jp2_palette::row_bytes(rest, 0, columns as u8);
+    let mut at = columns + jp2_palette::row_bytes(rest, 0, i as u8);
+    let mut j = 0;
+    while j < entries {
+        out[j] = displayed(jp2_cio::opj_read_bytes(rest, at, wide));
+        at += row;
+        j += 1;
+    }
+}
+
+fn lookup_inside(
+    entries: &[i32; 1024],
+    last: u32,
+    src: &[i32],
+    from: usize,
+    n: usize,
+    dst: &mut [i32],
+    at: usize,
+)
+    requires { ⌜ (last < 1024) × (from + n ≤ length (now src)) × (at + n ≤ length (now dst)) ⌝ }
+    ensures { λ _. ⌜ now (dst .exit) ≡ placed (now (dst .entry)) at (map (entryFor (now (entries .entry)) last) (plane (now (src .entry)) from n)) ⌝ }
+{
+    let mut k = 0;
+    while k < n {
+        let e = held(src[from + k], last) as usize;
+        dst[at + k] = entries[e];
+        k += 1;
+    }
+}
+
+// The same as copy_plane, with each sample looked up in column i of the palette; false, with nothing changed, also where the file has no such column.
+pub fn lookup_plane(
+    f: &[u8],
+    p: Palette,
+    i: u32,
+    src: &[i32],
+    from: usize,
+    n: usize,
+    dst: &mut [i32],
+    at: usize,
+) -> bool
+    ensures { λ r. ⌜ r ≡ done (noColumn (now (f .entry)) p i or outside (now (src .entry)) from n (now (dst .entry)) at) ⌝ }
+    ensures { λ _. ⌜ now (dst .exit) ≡ put (noColumn (now (f .entry)) p i or outside (now (src .entry)) from n (now (dst .entry)) at) (now (dst .entry)) at (map (lookup (now (f .entry)) p i) (plane (now (src .entry)) from n)) ⌝ }
+{
+    if !has_column(f, p, i) {
+        return false;
+    }
+    if !inside(src.len(), from, n) {
+        return false;
+    }
+    if !inside(dst.len(), at, n) {
+        return false;
+    }
+    let mut entries = [0i32; 1024];
+    decode_column(f, p, i, &mut entries);
+    lookup_inside(&entries, p.entries - 1, src, from, n, dst, at);
+    true
+}
+
+// One channel: with type 1 its component's samples are looked up in the palette's column c, else they are copied.
+pub fn put_channel(
+    f: &[u8],
+    p: Palette,
+    c: u32,
+    typ: u32,
+    src: &[i32],
+    from: usize,
+    n: usize,
+    dst: &mut [i32],
+    at: usize,
+) -> bool
+    ensures { λ r. ⌜ r ≡ done (typ =? 1 and noColumn (now (f .entry)) p c or outside (now (src .entry)) from n (now (dst .entry)) at) ⌝ }
+    ensures { λ _. ⌜ now (dst .exit) ≡ put (typ =? 1 and noColumn (now (f .entry)) p c or outside (now (src .entry)) from n (now (dst .entry)) at) (now (dst .entry)) at (map (valueFor (now (f .entry)) p c typ) (plane (now (src .entry)) from n)) ⌝ }
+{
+    if typ == 1 {
+        return lookup_plane(f, p, c, src, from, n, dst, at);
+    }
+    copy_plane(src, from, n, dst, at)
+}
