@@ -25,7 +25,7 @@ channels m n = table (mapped m ⇒ m .lists .pclr .columns ∣ otherwise n)
 unfoldable pub componentOf : List ℕ → Jp2 → ℕ → ℕ
 componentOf f m c = table (mapped m ⇒ CMP f (m .lists .cmap) c ∣ otherwise c)
 
--- with one component, a direct mapping of a channel other than 0 makes all mappings palette mappings, each to its own column
+-- with one component, a direct mapping of a channel other than 0 makes all mappings palette mappings, each to its own column (difference 22)
 abbrev pub corrected : List ℕ → Jp2 → ℕ → Test
 corrected f m n = n =? 1 and some (λ c. 0 <? c and MTYP f (m .lists .cmap) c =? 0) (m .lists .cmap .count)
 
