@@ -13,10 +13,10 @@ use Rattle.jp2_check.proofs.definitions_outside.Statement.{statement}
 use Rattle.jp2_check.proofs.definitions_outside.Tie as tie
 
 returns : tie.Need-returns
-returns c = shown false (definitionsOutside (c .before .before .args .f .now) (c .before .before .args .l)) (omega arith)
+returns c = let a = c .before .before .args in shown false (definitionsOutside (a .f .now) (a .l)) (omega arith)
 
 returns-2 : tie.Need-returns-2
-returns-2 c = shown true (definitionsOutside (c .before .before .before .args .f .now) (c .before .before .before .args .l)) (omega arith)
+returns-2 c = let a = c .before .before .before .args in shown true (definitionsOutside (a .f .now) (a .l)) (omega arith)
 
 mul-outside : tie.Need-mul-outside
 mul-outside c = search needs

@@ -34,7 +34,7 @@ read-u8-requires : tie.Need-read-u8-requires Inv-loop μ-loop
 read-u8-requires c κs = search needs
 
 returns : tie.Need-returns Inv-loop μ-loop
-returns c = lowest-first (directAt (c .before .before .before .before .before .args .f .now) (c .before .before .before .before .before .args .l)) (c .before .before .before .loop .c) (c .before .before .before .before .before .args .l .count) (c .before .before .before .loop .inv .1) (omega arith) (omega arith)
+returns c = let a = c .before .before .before .before .before .args in let l = c .before .before .before .loop in lowest-first (directAt (a .f .now) (a .l)) (l .c) (a .l .count) (l .inv .1) (omega arith) (omega arith)
 
 add-c : tie.Need-add-c Inv-loop μ-loop
 add-c c = omega arith
@@ -43,10 +43,10 @@ loop-less : tie.Need-loop-less Inv-loop μ-loop
 loop-less c = omega arith
 
 loop-again : tie.Need-loop-again Inv-loop μ-loop
-loop-again c = (omega arith, below-more (λ i. Says false (directAt (c .before .before .before .before .before .args .f .now) (c .before .before .before .before .before .args .l) i)) (c .before .before .before .loop .c) (c .before .before .before .loop .inv .1) (λ p. omega arith))
+loop-again c = let a = c .before .before .before .before .before .args in let l = c .before .before .before .loop in (omega arith, below-more (λ i. Says false (directAt (a .f .now) (a .l) i)) (l .c) (l .inv .1) (λ p. omega arith))
 
 returns-2 : tie.Need-returns-2 Inv-loop μ-loop
-returns-2 c = lowest-none (directAt (c .before .before .before .args .f .now) (c .before .before .before .args .l)) (c .before .before .before .args .l .count) (λ i h. c .before .loop .inv .1 i (omega arith))
+returns-2 c = let a = c .before .before .before .args in lowest-none (directAt (a .f .now) (a .l)) (a .l .count) (λ i h. c .before .loop .inv .1 i (omega arith))
 
 pub first-direct-spec : {M : Type 1} → statement M
 first-direct-spec =

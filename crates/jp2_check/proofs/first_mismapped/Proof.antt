@@ -25,7 +25,7 @@ is-mismapped-requires : tie.Need-is-mismapped-requires Inv-loop μ-loop
 is-mismapped-requires c κs = omega (arith, c .before .before .before .pre (omega arith))
 
 returns : tie.Need-returns Inv-loop μ-loop
-returns c = lowest-first (mismappedAt (c .before .before .before .before .before .args .f .now) (c .before .before .before .before .before .args .l) (c .before .before .before .before .before .args .n)) (c .before .before .before .loop .c) (c .before .before .before .before .before .args .l .count) (c .before .before .before .loop .inv .1) (said true (mismappedAt (c .before .before .before .before .before .args .f .now) (c .before .before .before .before .before .args .l) (c .before .before .before .before .before .args .n) (c .before .before .before .loop .c)) (sym (c .if1 .taken) ∙ c .before .is-mismapped .ensures)) (omega arith)
+returns c = let a = c .before .before .before .before .before .args in let l = c .before .before .before .loop in lowest-first (mismappedAt (a .f .now) (a .l) (a .n)) (l .c) (a .l .count) (l .inv .1) (said true (mismappedAt (a .f .now) (a .l) (a .n) (l .c)) (sym (c .if1 .taken) ∙ c .before .is-mismapped .ensures)) (omega arith)
 
 add-c : tie.Need-add-c Inv-loop μ-loop
 add-c c = omega arith
@@ -34,10 +34,10 @@ loop-less : tie.Need-loop-less Inv-loop μ-loop
 loop-less c = omega arith
 
 loop-again : tie.Need-loop-again Inv-loop μ-loop
-loop-again c = (omega arith, below-more (λ i. Says false (mismappedAt (c .before .before .before .before .before .args .f .now) (c .before .before .before .before .before .args .l) (c .before .before .before .before .before .args .n) i)) (c .before .before .before .loop .c) (c .before .before .before .loop .inv .1) (said false (mismappedAt (c .before .before .before .before .before .args .f .now) (c .before .before .before .before .before .args .l) (c .before .before .before .before .before .args .n) (c .before .before .before .loop .c)) (sym (c .if1 .left) ∙ c .before .is-mismapped .ensures)))
+loop-again c = let a = c .before .before .before .before .before .args in let l = c .before .before .before .loop in (omega arith, below-more (λ i. Says false (mismappedAt (a .f .now) (a .l) (a .n) i)) (l .c) (l .inv .1) (said false (mismappedAt (a .f .now) (a .l) (a .n) (l .c)) (sym (c .if1 .left) ∙ c .before .is-mismapped .ensures)))
 
 returns-2 : tie.Need-returns-2 Inv-loop μ-loop
-returns-2 c = lowest-none (mismappedAt (c .before .before .before .args .f .now) (c .before .before .before .args .l) (c .before .before .before .args .n)) (c .before .before .before .args .l .count) (λ i h. c .before .loop .inv .1 i (omega arith))
+returns-2 c = let a = c .before .before .before .args in lowest-none (mismappedAt (a .f .now) (a .l) (a .n)) (a .l .count) (λ i h. c .before .loop .inv .1 i (omega arith))
 
 pub first-mismapped-spec : {M : Type 1} → statement M
 first-mismapped-spec =

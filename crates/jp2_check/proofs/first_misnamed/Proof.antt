@@ -25,7 +25,7 @@ is-misnamed-requires : tie.Need-is-misnamed-requires Inv-loop μ-loop
 is-misnamed-requires c κs = omega (arith, c .before .before .before .pre (omega arith))
 
 returns : tie.Need-returns Inv-loop μ-loop
-returns c = lowest-first (misnamedAt (c .before .before .before .before .before .args .f .now) (c .before .before .before .before .before .args .l) (c .before .before .before .before .before .args .k)) (c .before .before .before .loop .j) (c .before .before .before .before .before .args .l .count) (c .before .before .before .loop .inv .1) (said true (misnamedAt (c .before .before .before .before .before .args .f .now) (c .before .before .before .before .before .args .l) (c .before .before .before .before .before .args .k) (c .before .before .before .loop .j)) (sym (c .if1 .taken) ∙ c .before .is-misnamed .ensures)) (omega arith)
+returns c = let a = c .before .before .before .before .before .args in let l = c .before .before .before .loop in lowest-first (misnamedAt (a .f .now) (a .l) (a .k)) (l .j) (a .l .count) (l .inv .1) (said true (misnamedAt (a .f .now) (a .l) (a .k) (l .j)) (sym (c .if1 .taken) ∙ c .before .is-misnamed .ensures)) (omega arith)
 
 add-j : tie.Need-add-j Inv-loop μ-loop
 add-j c = omega arith
@@ -34,10 +34,10 @@ loop-less : tie.Need-loop-less Inv-loop μ-loop
 loop-less c = omega arith
 
 loop-again : tie.Need-loop-again Inv-loop μ-loop
-loop-again c = (omega arith, below-more (λ i. Says false (misnamedAt (c .before .before .before .before .before .args .f .now) (c .before .before .before .before .before .args .l) (c .before .before .before .before .before .args .k) i)) (c .before .before .before .loop .j) (c .before .before .before .loop .inv .1) (said false (misnamedAt (c .before .before .before .before .before .args .f .now) (c .before .before .before .before .before .args .l) (c .before .before .before .before .before .args .k) (c .before .before .before .loop .j)) (sym (c .if1 .left) ∙ c .before .is-misnamed .ensures)))
+loop-again c = let a = c .before .before .before .before .before .args in let l = c .before .before .before .loop in (omega arith, below-more (λ i. Says false (misnamedAt (a .f .now) (a .l) (a .k) i)) (l .j) (l .inv .1) (said false (misnamedAt (a .f .now) (a .l) (a .k) (l .j)) (sym (c .if1 .left) ∙ c .before .is-misnamed .ensures)))
 
 returns-2 : tie.Need-returns-2 Inv-loop μ-loop
-returns-2 c = lowest-none (misnamedAt (c .before .before .before .args .f .now) (c .before .before .before .args .l) (c .before .before .before .args .k)) (c .before .before .before .args .l .count) (λ i h. c .before .loop .inv .1 i (omega arith))
+returns-2 c = let a = c .before .before .before .args in lowest-none (misnamedAt (a .f .now) (a .l) (a .k)) (a .l .count) (λ i h. c .before .loop .inv .1 i (omega arith))
 
 pub first-misnamed-spec : {M : Type 1} → statement M
 first-misnamed-spec =

@@ -10,7 +10,7 @@ use Rattle.jp2_check.proofs.first_undefined.Statement.{statement}
 use Rattle.jp2_check.proofs.first_undefined.Tie as tie
 
 returns : tie.Need-returns
-returns c = lowest-none (undefinedAt (c .before .before .before .args .f .now) (c .before .before .before .args .l)) (c .before .before .before .args .k) (λ i h. λ p. absurd (p (c .if1 .taken)))
+returns c = let a = c .before .before .before .args in lowest-none (undefinedAt (a .f .now) (a .l)) (a .k) (λ i h. λ p. absurd (p (c .if1 .taken)))
 
 slice-aggregate-mark-defined : tie.Need-slice-aggregate-mark-defined
 slice-aggregate-mark-defined c = search needs
@@ -25,7 +25,7 @@ first-unmarked-requires : tie.Need-first-unmarked-requires
 first-unmarked-requires c κs = search needs
 
 returns-2 : tie.Need-returns-2
-returns-2 c = c .first-unmarked .ensures ∙ marks-all (c .before .before .before .before .before .before .before .before .args .f .now) (c .before .before .before .before .before .before .before .before .args .l) (c .before .before .before .mark-defined .last .1 .1 .0) (c .before .before .before .before .before .before .before .before .args .k) (c .before .before .before .before .before .if1 .left) (λ x b. c .before .before .before .mark-defined .ensures x (omega (arith, c .before .before .before .before .before .before .before .before .pre .most)))
+returns-2 c = let a = c .before .before .before .before .before .before .before .before .args in c .first-unmarked .ensures ∙ marks-all (a .f .now) (a .l) (c .before .before .before .mark-defined .last .1 .1 .0) (a .k) (c .before .before .before .before .before .if1 .left) (λ x b. c .before .before .before .mark-defined .ensures x (omega (arith, c .before .before .before .before .before .before .before .before .pre .most)))
 
 pub first-undefined-spec : {M : Type 1} → statement M
 first-undefined-spec =

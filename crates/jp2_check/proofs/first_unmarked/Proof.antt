@@ -26,7 +26,7 @@ shared-slice-read-if1 : tie.Need-shared-slice-read-if1 Inv-loop μ-loop
 shared-slice-read-if1 c = omega arith
 
 returns : tie.Need-returns Inv-loop μ-loop
-returns c = lowest-first (unmarked (c .before .before .before .before .args .seen .now)) (c .before .before .before .loop .c) (c .before .before .before .before .args .k) (c .before .before .before .loop .inv .1) (omega arith, c .if1 .taken) (omega arith)
+returns c = let a = c .before .before .before .before .args in let l = c .before .before .before .loop in lowest-first (unmarked (a .seen .now)) (l .c) (a .k) (l .inv .1) (omega arith, c .if1 .taken) (omega arith)
 
 add-c : tie.Need-add-c Inv-loop μ-loop
 add-c c = omega arith
@@ -35,10 +35,10 @@ loop-less : tie.Need-loop-less Inv-loop μ-loop
 loop-less c = omega arith
 
 loop-again : tie.Need-loop-again Inv-loop μ-loop
-loop-again c = (omega arith, below-more (λ i. Says false (unmarked (c .before .before .before .before .args .seen .now) i)) (c .before .before .before .loop .c) (c .before .before .before .loop .inv .1) (λ p. c .if1 .left))
+loop-again c = let l = c .before .before .before .loop in (omega arith, below-more (λ i. Says false (unmarked (c .before .before .before .before .args .seen .now) i)) (l .c) (l .inv .1) (λ p. c .if1 .left))
 
 returns-2 : tie.Need-returns-2 Inv-loop μ-loop
-returns-2 c = lowest-none (unmarked (c .before .before .args .seen .now)) (c .before .before .args .k) (λ i h. c .before .loop .inv .1 i (omega arith))
+returns-2 c = let a = c .before .before .args in lowest-none (unmarked (a .seen .now)) (a .k) (λ i h. c .before .loop .inv .1 i (omega arith))
 
 pub first-unmarked-spec : {M : Type 1} → statement M
 first-unmarked-spec =

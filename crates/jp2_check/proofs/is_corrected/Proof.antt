@@ -8,19 +8,19 @@ use Rattle.jp2_check.proofs.is_corrected.Statement.{statement}
 use Rattle.jp2_check.proofs.is_corrected.Tie as tie
 
 returns : tie.Need-returns
-returns c = shown false (correctedAt (c .before .before .args .f .now) (c .before .before .args .l) (c .before .before .args .n)) (omega arith)
+returns c = let a = c .before .before .args in shown false (correctedAt (a .f .now) (a .l) (a .n)) (omega arith)
 
 returns-2 : tie.Need-returns-2
-returns-2 c = shown false (correctedAt (c .before .before .before .args .f .now) (c .before .before .before .args .l) (c .before .before .before .args .n)) (omega arith)
+returns-2 c = let a = c .before .before .before .args in shown false (correctedAt (a .f .now) (a .l) (a .n)) (omega arith)
 
 first-direct-requires : tie.Need-first-direct-requires
 first-direct-requires c κs = c .before .before .before .pre
 
 returns-3 : tie.Need-returns-3
-returns-3 c = shown true (correctedAt (c .before .before .before .before .before .args .f .now) (c .before .before .before .before .before .args .l) (c .before .before .before .before .before .args .n)) (omega arith)
+returns-3 c = let a = c .before .before .before .before .before .args in shown true (correctedAt (a .f .now) (a .l) (a .n)) (omega arith)
 
 returns-4 : tie.Need-returns-4
-returns-4 c = shown false (correctedAt (c .before .before .before .before .before .args .f .now) (c .before .before .before .before .before .args .l) (c .before .before .before .before .before .args .n)) (omega arith)
+returns-4 c = let a = c .before .before .before .before .before .args in shown false (correctedAt (a .f .now) (a .l) (a .n)) (omega arith)
 
 pub is-corrected-spec : {M : Type 1} → statement M
 is-corrected-spec =

@@ -37,16 +37,16 @@ cast-pcol : tie.Need-cast-pcol
 cast-pcol c = search needs
 
 returns : tie.Need-returns
-returns c = shown true (mismappedAt (c .before .before .before .before .before .before .args .f .now) (c .before .before .before .before .before .before .args .l) (c .before .before .before .before .before .before .args .n) (c .before .before .before .before .before .before .args .c)) (omega arith)
+returns c = let a = c .before .before .before .before .before .before .args in shown true (mismappedAt (a .f .now) (a .l) (a .n) (a .c)) (omega arith)
 
 returns-2 : tie.Need-returns-2
-returns-2 c = same (c .before .before .read-u82 .result ≠? 0) (mismappedAt (c .before .before .before .before .before .before .before .args .f .now) (c .before .before .before .before .before .before .before .args .l) (c .before .before .before .before .before .before .before .args .n) (c .before .before .before .before .before .before .before .args .c)) (λ h. omega arith) (λ h. (omega arith, λ g. absurd (g (omega arith) (omega arith))))
+returns-2 c = let a = c .before .before .before .before .before .before .before .args in same (c .before .before .read-u82 .result ≠? 0) (mismappedAt (a .f .now) (a .l) (a .n) (a .c)) (λ h. omega arith) (λ h. (omega arith, λ g. absurd (g (omega arith) (omega arith))))
 
 returns-3 : tie.Need-returns-3
-returns-3 c = same (c .before .before .before .read-u82 .result ≠? c .before .before .before .before .before .before .before .before .args .c) (mismappedAt (c .before .before .before .before .before .before .before .before .args .f .now) (c .before .before .before .before .before .before .before .before .args .l) (c .before .before .before .before .before .before .before .before .args .n) (c .before .before .before .before .before .before .before .before .args .c)) (λ h. omega arith) (λ h. (omega arith, λ g. omega arith))
+returns-3 c = let a = c .before .before .before .before .before .before .before .before .args in same (c .before .before .before .read-u82 .result ≠? a .c) (mismappedAt (a .f .now) (a .l) (a .n) (a .c)) (λ h. omega arith) (λ h. (omega arith, λ g. omega arith))
 
 returns-4 : tie.Need-returns-4
-returns-4 c = shown true (mismappedAt (c .before .before .before .before .before .before .before .before .args .f .now) (c .before .before .before .before .before .before .before .before .args .l) (c .before .before .before .before .before .before .before .before .args .n) (c .before .before .before .before .before .before .before .before .args .c)) (omega arith)
+returns-4 c = let a = c .before .before .before .before .before .before .before .before .args in shown true (mismappedAt (a .f .now) (a .l) (a .n) (a .c)) (omega arith)
 
 pub is-mismapped-spec : {M : Type 1} → statement M
 is-mismapped-spec =

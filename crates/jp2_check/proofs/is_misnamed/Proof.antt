@@ -30,19 +30,19 @@ cast-asoc : tie.Need-cast-asoc
 cast-asoc c = search needs
 
 returns : tie.Need-returns
-returns c = shown true (misnamedAt (c .before .before .before .before .before .args .f .now) (c .before .before .before .before .before .args .l) (c .before .before .before .before .before .args .k) (c .before .before .before .before .before .args .j)) (omega arith)
+returns c = let a = c .before .before .before .before .before .args in shown true (misnamedAt (a .f .now) (a .l) (a .k) (a .j)) (omega arith)
 
 returns-2 : tie.Need-returns-2
-returns-2 c = shown false (misnamedAt (c .before .before .before .before .before .before .args .f .now) (c .before .before .before .before .before .before .args .l) (c .before .before .before .before .before .before .args .k) (c .before .before .before .before .before .before .args .j)) (omega arith)
+returns-2 c = let a = c .before .before .before .before .before .before .args in shown false (misnamedAt (a .f .now) (a .l) (a .k) (a .j)) (omega arith)
 
 returns-3 : tie.Need-returns-3
-returns-3 c = shown false (misnamedAt (c .before .before .before .before .before .before .before .args .f .now) (c .before .before .before .before .before .before .before .args .l) (c .before .before .before .before .before .before .before .args .k) (c .before .before .before .before .before .before .before .args .j)) (omega arith)
+returns-3 c = let a = c .before .before .before .before .before .before .before .args in shown false (misnamedAt (a .f .now) (a .l) (a .k) (a .j)) (omega arith)
 
 returns-4 : tie.Need-returns-4
-returns-4 c = shown true (misnamedAt (c .before .before .before .before .before .before .before .before .args .f .now) (c .before .before .before .before .before .before .before .before .args .l) (c .before .before .before .before .before .before .before .before .args .k) (c .before .before .before .before .before .before .before .before .args .j)) (omega arith)
+returns-4 c = let a = c .before .before .before .before .before .before .before .before .args in shown true (misnamedAt (a .f .now) (a .l) (a .k) (a .j)) (omega arith)
 
 returns-5 : tie.Need-returns-5
-returns-5 c = shown false (misnamedAt (c .before .before .before .before .before .before .before .before .args .f .now) (c .before .before .before .before .before .before .before .before .args .l) (c .before .before .before .before .before .before .before .before .args .k) (c .before .before .before .before .before .before .before .before .args .j)) (omega arith)
+returns-5 c = let a = c .before .before .before .before .before .before .before .before .args in shown false (misnamedAt (a .f .now) (a .l) (a .k) (a .j)) (omega arith)
 
 pub is-misnamed-spec : {M : Type 1} → statement M
 is-misnamed-spec =

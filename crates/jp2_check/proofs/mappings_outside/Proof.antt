@@ -13,10 +13,10 @@ use Rattle.jp2_check.proofs.mappings_outside.Statement.{statement}
 use Rattle.jp2_check.proofs.mappings_outside.Tie as tie
 
 returns : tie.Need-returns
-returns c = shown false (mappingsOutside (c .before .before .args .f .now) (c .before .before .args .l) (c .before .before .args .columns)) (omega arith)
+returns c = let a = c .before .before .args in shown false (mappingsOutside (a .f .now) (a .l) (a .columns)) (omega arith)
 
 returns-2 : tie.Need-returns-2
-returns-2 c = shown true (mappingsOutside (c .before .before .before .args .f .now) (c .before .before .before .args .l) (c .before .before .before .args .columns)) (omega arith)
+returns-2 c = let a = c .before .before .before .args in shown true (mappingsOutside (a .f .now) (a .l) (a .columns)) (omega arith)
 
 mul-outside : tie.Need-mul-outside
 mul-outside c = search needs

@@ -18,7 +18,7 @@ abbrev μ-loop : tie.MeasureT-loop
 μ-loop f seen₀ place count j₀ seen j = count - j
 
 loop-holds : tie.Need-loop-holds Inv-loop μ-loop
-loop-holds c = (omega arith, refl, λ x b. c .before .before .pre .blank x ∙ mark-none (c .before .before .args .f .now) (c .before .before .args .l) x)
+loop-holds c = let a = c .before .before .args in (omega arith, refl, λ x b. c .before .before .pre .blank x ∙ mark-none (a .f .now) (a .l) x)
 
 mul-read-u16 : tie.Need-mul-read-u16 Inv-loop μ-loop
 mul-read-u16 c = omega (arith, c .before .before .before .before .pre .inside (omega arith))
@@ -42,13 +42,13 @@ loop-less : tie.Need-loop-less Inv-loop μ-loop
 loop-less c = omega arith
 
 loop-again : tie.Need-loop-again Inv-loop μ-loop
-loop-again c = let w = c .before .before .loop .inv in (omega arith, simp length-set (w .1), λ x b. marks-next (c .before .before .before .before .before .args .f .now) (c .before .before .before .before .before .args .l) (c .before .before .loop .seen) (c .before .before .loop .j) (c .read-u16 .ensures) (omega (arith, c .before .before .before .before .before .pre .within (c .before .before .loop .j) (omega arith))) (w .2) x (simp length-set at b))
+loop-again c = let a = c .before .before .before .before .before .args in let l = c .before .before .loop in let w = l .inv in (omega arith, simp length-set (w .1), λ x b. marks-next (a .f .now) (a .l) (l .seen) (l .j) (c .read-u16 .ensures) (omega (arith, c .before .before .before .before .before .pre .within (l .j) (omega arith))) (w .2) x (simp length-set at b))
 
 same-length : tie.Need-same-length Inv-loop μ-loop
 same-length c = c .before .loop .inv .1
 
 returns : tie.Need-returns Inv-loop μ-loop
-returns c = let w = c .before .loop .inv in let e : c .before .loop .j ≡ c .before .before .before .before .args .l .count = omega arith in λ x b. rw e at (w .2 x (omega arith))
+returns c = let l = c .before .loop in let w = l .inv in let e : l .j ≡ c .before .before .before .before .args .l .count = omega arith in λ x b. rw e at (w .2 x (omega arith))
 
 pub mark-defined-spec : {M : Type 1} → statement M
 mark-defined-spec =

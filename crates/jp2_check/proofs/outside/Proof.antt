@@ -11,16 +11,16 @@ use Rattle.jp2_check.proofs.outside.Statement.{statement}
 use Rattle.jp2_check.proofs.outside.Tie as tie
 
 returns : tie.Need-returns
-returns c = shown true (length (c .before .args .f .now) <? c .before .args .place + c .before .args .size) (omega arith)
+returns c = let a = c .before .args in shown true (length (a .f .now) <? a .place + a .size) (omega arith)
 
 sub-if2 : tie.Need-sub-if2
 sub-if2 c = search needs
 
 returns-2 : tie.Need-returns-2
-returns-2 c = shown true (length (c .before .before .args .f .now) <? c .before .before .args .place + c .before .before .args .size) (omega arith)
+returns-2 c = let a = c .before .before .args in shown true (length (a .f .now) <? a .place + a .size) (omega arith)
 
 returns-3 : tie.Need-returns-3
-returns-3 c = shown false (length (c .before .before .args .f .now) <? c .before .before .args .place + c .before .before .args .size) (omega arith)
+returns-3 c = let a = c .before .before .args in shown false (length (a .f .now) <? a .place + a .size) (omega arith)
 
 pub outside-spec : {M : Type 1} → statement M
 outside-spec = tie.close (tie.spec returns sub-if2 returns-2 returns-3)

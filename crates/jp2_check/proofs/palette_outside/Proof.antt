@@ -21,16 +21,16 @@ cast-columns : tie.Need-cast-columns
 cast-columns c = search needs
 
 returns : tie.Need-returns
-returns c = shown false (paletteOutside (c .before .before .before .before .args .f .now) (c .before .before .before .before .args .p)) (omega arith)
+returns c = let a = c .before .before .before .before .args in shown false (paletteOutside (a .f .now) (a .p)) (omega arith)
 
 returns-2 : tie.Need-returns-2
-returns-2 c = shown true (paletteOutside (c .before .before .before .before .before .args .f .now) (c .before .before .before .before .before .args .p)) (omega arith)
+returns-2 c = let a = c .before .before .before .before .before .args in shown true (paletteOutside (a .f .now) (a .p)) (omega arith)
 
 returns-3 : tie.Need-returns-3
-returns-3 c = shown true (paletteOutside (c .before .before .before .before .before .before .args .f .now) (c .before .before .before .before .before .before .args .p)) (omega arith)
+returns-3 c = let a = c .before .before .before .before .before .before .args in shown true (paletteOutside (a .f .now) (a .p)) (omega arith)
 
 returns-4 : tie.Need-returns-4
-returns-4 c = shown true (paletteOutside (c .before .before .before .before .before .before .before .args .f .now) (c .before .before .before .before .before .before .before .args .p)) (omega arith)
+returns-4 c = let a = c .before .before .before .before .before .before .before .args in shown true (paletteOutside (a .f .now) (a .p)) (omega arith)
 
 part-requires : tie.Need-part-requires
 part-requires c κs = search needs
