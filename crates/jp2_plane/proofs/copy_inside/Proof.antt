@@ -46,7 +46,8 @@ loop-less : tie.Need-loop-less Inv-loop μ-loop
 loop-less c = omega arith
 
 loop-again : tie.Need-loop-again Inv-loop μ-loop
-loop-again c = let l = c .before .before in
+loop-again c =
+    let l = c .before .before in
     let a = l .before .args in (
       omega arith,
       placing-more (a .dst .now) (a .at) (drop (a .from) (a .src .now)) (l .loop .dst) (l .loop .k) (pos 0) _ (l .loop .inv .1) (omega arith)
@@ -58,7 +59,8 @@ same-length : tie.Need-same-length Inv-loop μ-loop
 same-length c = omega arith
 
 returns : tie.Need-returns Inv-loop μ-loop
-returns c = let l = c .before in
+returns c =
+    let l = c .before in
     let a = l .before .args in
     placing-all (a .dst .now) (a .at) (drop (a .from) (a .src .now)) (l .loop .dst) (l .loop .k) (a .n) (l .loop .inv .1) (omega arith) (simp length-drop (omega arith))
 

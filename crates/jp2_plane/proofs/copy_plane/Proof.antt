@@ -10,14 +10,14 @@ use Rattle.jp2_plane.proofs.copy_plane.Statement.{statement}
 use Rattle.jp2_plane.proofs.copy_plane.Tie as tie
 
 inside-requires : tie.Need-inside-requires
-inside-requires c κs = search needs
+inside-requires c κs = tt
 
 returns : tie.Need-returns
 unfolding done put
 returns c = let h = done-false _ (c .before .inside .ensures) (c .if1 .taken) in (row 0 _ (omega arith) refl, row 0 _ (omega arith) refl)
 
 inside-requires-2 : tie.Need-inside-requires-2
-inside-requires-2 c κs = search needs
+inside-requires-2 c κs = tt
 
 returns-2 : tie.Need-returns-2
 unfolding done put
@@ -34,7 +34,8 @@ same-length c = search needs
 
 returns-3 : tie.Need-returns-3
 unfolding done put
-returns-3 c = let r = copy-inside-requires (c .before .before) (c .before .copy-inside .lifetimes) in
+returns-3 c =
+    let r = copy-inside-requires (c .before .before) (c .before .copy-inside .lifetimes) in
     (row 1 _ (r, tt) refl, row 1 _ (r, tt) (c .before .copy-inside .ensures))
 
 pub copy-plane-spec : {M : Type 1} → statement M

@@ -42,35 +42,36 @@ part-rest-end : tie.Need-part-rest-end Inv-loop μ-loop
 part-rest-end c = omega arith
 
 read-u8-requires : tie.Need-read-u8-requires Inv-loop μ-loop
-read-u8-requires c κs = omega arith
+read-u8-requires c κs = tt
 
 entry-bytes-requires : tie.Need-entry-bytes-requires Inv-loop μ-loop
-entry-bytes-requires c κs = omega arith
+entry-bytes-requires c κs = tt
 
 cast-row-bytes : tie.Need-cast-row-bytes Inv-loop μ-loop
 cast-row-bytes c = omega arith
 
 row-bytes-requires : tie.Need-row-bytes-requires Inv-loop μ-loop
-row-bytes-requires c κs = omega arith
+row-bytes-requires c κs = tt
 
 cast-row-bytes-2 : tie.Need-cast-row-bytes-2 Inv-loop μ-loop
 cast-row-bytes-2 c = omega arith
 
 row-bytes-requires-2 : tie.Need-row-bytes-requires-2 Inv-loop μ-loop
-row-bytes-requires-2 c κs = omega arith
+row-bytes-requires-2 c κs = tt
 
 add-at : tie.Need-add-at Inv-loop μ-loop
 add-at c = omega (arith, row-small _ _ _ (c .row-bytes2 .ensures) (omega arith))
 
 loop-holds : tie.Need-loop-holds Inv-loop μ-loop
-loop-holds c = let a = c .before .before .before .before .before .before .before .before .args in
+loop-holds c =
+    let a = c .before .before .before .before .before .before .before .before .args in
     (omega arith, omega (arith, zero-mul (c .before .row-bytes .result)), placing-none (a .out .now) 0 (column (a .f .now) (a .p) (a .i) (a .p .entries)))
 
 opj-read-bytes-requires : tie.Need-opj-read-bytes-requires Inv-loop μ-loop
-opj-read-bytes-requires c κs = omega arith
+opj-read-bytes-requires c κs = tt
 
 displayed-requires : tie.Need-displayed-requires Inv-loop μ-loop
-displayed-requires c κs = omega arith
+displayed-requires c κs = tt
 
 mul-t20 : tie.Need-mul-t20 Inv-loop μ-loop
 mul-t20 c = omega arith
@@ -79,7 +80,8 @@ slice-set-from-out : tie.Need-slice-set-from-out Inv-loop μ-loop
 slice-set-from-out c = omega arith
 
 add-at-2 : tie.Need-add-at-2 Inv-loop μ-loop
-add-at-2 c = let l = c .before .before .before in
+add-at-2 c =
+    let l = c .before .before .before in
     let b = l .before in
     let q = b .before .before .before .before .before .before .before .before .pre in
     omega (
@@ -97,7 +99,8 @@ loop-less : tie.Need-loop-less Inv-loop μ-loop
 loop-less c = omega arith
 
 loop-again : tie.Need-loop-again Inv-loop μ-loop
-loop-again c = let l = c .before .before .before in
+loop-again c =
+    let l = c .before .before .before in
     let b = l .before in
     let a = b .before .before .before .before .before .before .before .before .args in
     let q = b .before .before .before .before .before .before .before .before .pre in
@@ -118,7 +121,8 @@ same-length : tie.Need-same-length Inv-loop μ-loop
 same-length c = omega arith
 
 returns : tie.Need-returns Inv-loop μ-loop
-returns c = let l = c .before in
+returns c =
+    let l = c .before in
     let a = l .before .before .before .before .before .before .before .before .before .args in
     let s = column (a .f .now) (a .p) (a .i) (a .p .entries) in
     let e = length-column (a .f .now) (a .p) (a .i) (a .p .entries) in

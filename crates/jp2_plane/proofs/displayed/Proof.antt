@@ -21,7 +21,8 @@ returns : tie.Need-returns
 returns c = displayed-low (c .before .args .e) (omega arith)
 
 returns-2 : tie.Need-returns-2
-returns-2 c = let e = c .before .args .e in
+returns-2 c =
+    let e = c .before .args .e in
     toZ-ofZ (add-result c) ∙ high e (omega arith) (omega arith) ∙ displayed-high e (omega arith) (omega arith)
 
 pub displayed-spec : {M : Type 1} → statement M

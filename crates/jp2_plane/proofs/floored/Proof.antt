@@ -9,11 +9,13 @@ returns : tie.Need-returns
 returns c = floor-neg (c .before .args .s) (rw (toZ-ofZ (c .before .fits .s)) at (c .if1 .taken))
 
 cast-result : tie.Need-cast-result
-cast-result c = let z = toZ-ofZ (c .before .fits .s) in
+cast-result c =
+    let z = toZ-ofZ (c .before .fits .s) in
     rw z (not-neg (c .before .args .s) (rw z at (c .if1 .left)), fits-natAbs tt (c .before .fits .s))
 
 returns-2 : tie.Need-returns-2
-returns-2 c = let z = toZ-ofZ (c .before .fits .s) in
+returns-2 c =
+    let z = toZ-ofZ (c .before .fits .s) in
     rw z (floor-pos (c .before .args .s) (rw z at (c .if1 .left)))
 
 pub floored-spec : {M : Type 1} → statement M

@@ -6,15 +6,14 @@ use Rattle.jp2_cio.proofs.Rows.{row}
 use Rattle.jp2_palette.proofs.Entries.{rows-most}
 use Rattle.jp2_plane.specs.Plane.{done}
 use Rattle.jp2_plane.proofs.Columns.{length-rest, rows-are}
-use borrow.Author.Needs.{needs}
 use Rattle.jp2_plane.proofs.has_column.Statement.{statement}
 use Rattle.jp2_plane.proofs.has_column.Tie as tie
 
 cast-entries : tie.Need-cast-entries
-cast-entries c = search needs
+cast-entries c = omega arith
 
 cast-columns : tie.Need-cast-columns
-cast-columns c = search needs
+cast-columns c = omega arith
 
 returns : tie.Need-returns
 unfolding done
@@ -37,26 +36,26 @@ unfolding done
 returns-5 c = row 0 _ (omega arith) refl
 
 sub-rest : tie.Need-sub-rest
-sub-rest c = search needs
+sub-rest c = omega arith
 
 part-rest-start : tie.Need-part-rest-start
-part-rest-start c = search needs
+part-rest-start c = omega arith
 
 part-rest-end : tie.Need-part-rest-end
-part-rest-end c = search needs
+part-rest-end c = omega arith
 
 returns-6 : tie.Need-returns-6
 unfolding done
 returns-6 c = let a = c .before .before .before .before .before .before .before .before .before .before .args in row 0 _ (omega (arith, length-rest (a .f .now) (a .p .place))) refl
 
 sub-if7 : tie.Need-sub-if7
-sub-if7 c = search needs
+sub-if7 c = omega arith
 
 cast-row-bytes : tie.Need-cast-row-bytes
-cast-row-bytes c = search needs
+cast-row-bytes c = omega arith
 
 row-bytes-requires : tie.Need-row-bytes-requires
-row-bytes-requires c κs = search needs
+row-bytes-requires c κs = tt
 
 mul-if7 : tie.Need-mul-if7
 mul-if7 c = omega (arith, rows-most _ _ _ (c .before .before .before .before .before .before .before .before .before .before .before .args .p .entries) (omega arith) (omega arith) (c .row-bytes .ensures))

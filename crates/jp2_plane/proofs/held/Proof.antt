@@ -5,12 +5,11 @@ use mathlib.Core.Path.{_≡_, refl, ap, _∙_}
 use mir.Facts.{toZ-ofZ}
 use Rattle.jp2_cio.proofs.Rows.{row}
 use Rattle.jp2_picture.specs.Samples.{floored}
-use borrow.Author.Needs.{needs}
 use Rattle.jp2_plane.proofs.held.Statement.{statement}
 use Rattle.jp2_plane.proofs.held.Tie as tie
 
 floored-requires : tie.Need-floored-requires
-floored-requires c κs = search needs
+floored-requires c κs = tt
 
 -- what the call gave, of the sample itself and not of its bits read back
 u-is : (c : tie.After-floored) → c .floored .result ≡ floored (c .before .args .s)

@@ -34,7 +34,7 @@ shared-slice-copy-out-held : tie.Need-shared-slice-copy-out-held Inv-loop μ-loo
 shared-slice-copy-out-held c = omega arith
 
 held-requires : tie.Need-held-requires Inv-loop μ-loop
-held-requires c κs = omega arith
+held-requires c κs = tt
 
 cast-e : tie.Need-cast-e Inv-loop μ-loop
 cast-e c = omega (arith, least-most _ _ (c .held .ensures))
@@ -61,7 +61,8 @@ loop-less : tie.Need-loop-less Inv-loop μ-loop
 loop-less c = omega arith
 
 loop-again : tie.Need-loop-again Inv-loop μ-loop
-loop-again c = let l = c .before .before .before .before in
+loop-again c =
+    let l = c .before .before .before .before in
     let a = l .before .args in
     let f = entryFor (a .entries .now) (a .last) in
     let s = drop (a .from) (a .src .now) in
@@ -79,7 +80,8 @@ same-length : tie.Need-same-length Inv-loop μ-loop
 same-length c = omega arith
 
 returns : tie.Need-returns Inv-loop μ-loop
-returns c = let l = c .before in
+returns c =
+    let l = c .before in
     let a = l .before .args in
     let f = entryFor (a .entries .now) (a .last) in
     let s = drop (a .from) (a .src .now) in

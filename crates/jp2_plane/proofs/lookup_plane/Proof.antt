@@ -14,7 +14,7 @@ use Rattle.jp2_plane.proofs.lookup_plane.Statement.{statement}
 use Rattle.jp2_plane.proofs.lookup_plane.Tie as tie
 
 has-column-requires : tie.Need-has-column-requires
-has-column-requires c κs = search needs
+has-column-requires c κs = tt
 
 -- past the first test the column is there
 sound : (c : tie.Else1) → let a = c .before .before .before .args in Says false (noColumn (a .f .now) (a .p) (a .i))
@@ -22,19 +22,20 @@ sound c = done-true _ (c .before .has-column .ensures) (c .if1 .left)
 
 returns : tie.Need-returns
 unfolding done put
-returns c = let a = c .before .before .before .args in
+returns c =
+    let a = c .before .before .before .args in
     let w = or-first (noColumn (a .f .now) (a .p) (a .i)) (outside (a .src .now) (a .from) (a .n) (a .dst .now) (a .at)) (done-false _ (c .before .has-column .ensures) (c .if1 .taken)) in
     (row 0 _ w refl, row 0 _ w refl)
 
 inside-requires : tie.Need-inside-requires
-inside-requires c κs = search needs
+inside-requires c κs = tt
 
 returns-2 : tie.Need-returns-2
 unfolding done put
 returns-2 c = let h = done-false _ (c .before .inside .ensures) (c .if2 .taken) in (row 0 _ (λ _. omega arith) refl, row 0 _ (λ _. omega arith) refl)
 
 inside-requires-2 : tie.Need-inside-requires-2
-inside-requires-2 c κs = search needs
+inside-requires-2 c κs = tt
 
 returns-3 : tie.Need-returns-3
 unfolding done put
@@ -61,7 +62,8 @@ same-length c = search needs
 
 returns-4 : tie.Need-returns-4
 unfolding done put
-returns-4 c = let k = sound (c .before .before .before .before .before .before .before .before .before .before .before .before) in
+returns-4 c =
+    let k = sound (c .before .before .before .before .before .before .before .before .before .before .before .before) in
     let r = lookup-inside-requires (c .before .before) (c .before .lookup-inside .lifetimes) in
     let a = c .before .before .before .before .before .before .before .before .before .before .before .before .before .before .before .args in
     let q = placed-looked (a .f .now) (a .p) (a .i) (a .dst .now) (a .at) (replicate 1024 (pos 0)) (plane (a .src .now) (a .from) (a .n)) (omega (arith, k .0))

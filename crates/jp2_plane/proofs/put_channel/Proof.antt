@@ -9,24 +9,26 @@ use Rattle.jp2_plane.proofs.put_channel.Statement.{statement}
 use Rattle.jp2_plane.proofs.put_channel.Tie as tie
 
 lookup-plane-requires : tie.Need-lookup-plane-requires
-lookup-plane-requires c κs = search needs
+lookup-plane-requires c κs = tt
 
 same-length : tie.Need-same-length
 same-length c = search needs
 
 returns : tie.Need-returns
-returns c = let a = c .before .before .before .before .before .args in
+returns c =
+    let a = c .before .before .before .before .before .args in
     same-looked (a .typ) (noColumn (a .f .now) (a .p) (a .c)) (outside (a .src .now) (a .from) (a .n) (a .dst .now) (a .at)) (a .dst .now) (a .at) (omega arith)
     (channel-looked (a .f .now) (a .p) (a .c) (a .typ) (plane (a .src .now) (a .from) (a .n)) (omega arith)) (c .before .lookup-plane .ensures)
 
 copy-plane-requires : tie.Need-copy-plane-requires
-copy-plane-requires c κs = search needs
+copy-plane-requires c κs = tt
 
 same-length-2 : tie.Need-same-length-2
 same-length-2 c = search needs
 
 returns-2 : tie.Need-returns-2
-returns-2 c = let a = c .before .before .before .before .before .args in
+returns-2 c =
+    let a = c .before .before .before .before .before .args in
     same-direct (a .typ) (noColumn (a .f .now) (a .p) (a .c)) (outside (a .src .now) (a .from) (a .n) (a .dst .now) (a .at)) (a .dst .now) (a .at) (omega arith)
     (channel-direct (a .f .now) (a .p) (a .c) (a .typ) (plane (a .src .now) (a .from) (a .n)) (omega arith)) (c .before .copy-plane .ensures)
 
