@@ -3,6 +3,7 @@
 mod files;
 #[cfg(picture)]
 mod finishing;
+#[cfg(picture)]
 mod memory;
 #[cfg(picture)]
 mod pictures;
@@ -26,7 +27,6 @@ fn main() -> ExitCode {
 }
 
 fn run() -> Result<(), Disagreement> {
-    memory::always_fresh();
     let mut table = Table::new();
     reading::time(&mut table)?;
     #[cfg(picture)]

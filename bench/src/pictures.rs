@@ -2,6 +2,7 @@
 
 use crate::files::{cdef, cmap, colr, file, ihdr, pclr, reversed};
 use crate::finishing::{Lists, Picture};
+use crate::memory::always_fresh;
 use crate::table::{seconds, seconds_of_one, Case, Table};
 use crate::Disagreement;
 use oracle::{Component, Props, NO_DATA};
@@ -11,6 +12,7 @@ use std::hint::black_box;
 const SIZES: [(u32, u32); 3] = [(640, 480), (1920, 1080), (4096, 3072)];
 
 pub fn time(table: &mut Table) -> Result<(), Disagreement> {
+    always_fresh();
     for (width, height) in SIZES {
         let name = format!("three planes, {width}x{height}");
         time_samples(table, &name, &three_planes(width, height))?;

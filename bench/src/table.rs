@@ -69,15 +69,16 @@ impl Table {
     }
 }
 
-const NOTES: [&str; 9] = [
-    "Buffers: hot, all in the cache from the run before; touched, the destinations were written before the time began;",
-    "fresh, the destinations are new memory that is first written while the time runs. The files and samples handed in",
-    "were written before in every case. The crate's picture is made before the time begins, and let go after it ends; the",
-    "planes that a palette gives are allocated by the crate while the time runs, and are always fresh.",
-    "Ours reads the file and finishes the picture. The crate reads, then finishes in place: without a palette it copies no",
-    "sample, where ours always writes the finished samples to their destination, so there ours/copy is the ratio to look",
-    "at. Copy is a plain copy of the bytes of the file, or of as many samples as are finished. A reorder is of components",
-    "without samples, so there is nothing to copy.",
+const NOTES: [&str; 10] = [
+    "Buffers: hot, all in the cache from the run before; touched, the destinations were written before the time",
+    "began; fresh, the destinations are new memory that is first written while the time runs. The files and samples",
+    "handed in were written before in every case. The crate's picture is made before the time begins, and let go",
+    "after it ends; the planes that a palette gives are allocated by the crate while the time runs, and are always",
+    "fresh.",
+    "Ours reads the file and finishes the picture. The crate reads, then finishes in place: without a palette it",
+    "copies no sample, where ours always writes the finished samples to their destination, so there ours/copy is the",
+    "ratio to look at. Copy is a plain copy of the bytes of the file, or of as many samples as are finished. A reorder",
+    "is of components without samples, so there is nothing to copy.",
     "Before a case is timed both answers are compared.",
 ];
 

@@ -16,12 +16,13 @@ pub struct Checked {
     unminded: Option<usize>,
 }
 
-/// The answer's list is also made too short, by another length for each picture in turn.
+/// The list for the answer is just long enough or one longer, in turn. The picture is finished once more with one that is
+/// too short, of another length in turn.
 pub fn check(picture: &FinishingRequest, number: u64) -> Checked {
     let short = number as usize % 4;
     Checked {
         asked: finished::answer(picture),
-        ours: ours::finish(picture),
+        ours: ours::finish(picture, 4 + number as usize % 2),
         unminded: (!ours::minds_its_answer(picture, short)).then_some(short),
     }
 }
@@ -47,7 +48,8 @@ impl Checked {
                 found.push(format!("{name}: asked {asked}, ours {ours}"));
             }
         }
-        if self.ours.answer[4] != ours::UNWRITTEN {
+        let rest = &self.ours.answer[4..];
+        if rest.iter().any(|number| *number != ours::UNWRITTEN) {
             found.push("the answer's rest is written".to_owned());
         }
         let untouched = ours::record_pattern;

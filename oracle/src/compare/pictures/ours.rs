@@ -27,7 +27,10 @@ unsafe extern "C" {
 /// What stands where the port has written no number of an answer; no answer has it.
 pub const UNWRITTEN: u64 = 0xdead_beef_dead_beef;
 
-/// The port's answer, one more number behind it, and both destinations whole.
+/// So many numbers stand behind each list that the port writes to, and have to stay.
+const BEHIND: usize = 3;
+
+/// The port's answer and both destinations, whole and with what stands behind them.
 pub struct Finished {
     /// What the function returned.
     pub returned: u32,
@@ -46,30 +49,16 @@ pub fn sample_pattern(index: usize) -> i32 {
     record_pattern(index + 7) as i32
 }
 
-pub fn finish(picture: &FinishingRequest) -> Finished {
-    finish_with(picture, 5)
-}
-
-/// Whether the port writes nothing at all where its list for the answer is as short as this, and says so.
-pub fn minds_its_answer(picture: &FinishingRequest, length: usize) -> bool {
-    let finished = finish_with(picture, length);
-    let mut records = finished.records.iter().enumerate();
-    let mut samples = finished.samples.iter().enumerate();
-    finished.returned == 0
-        && finished.answer.iter().all(|number| *number == UNWRITTEN)
-        && records.all(|(index, number)| *number == record_pattern(index))
-        && samples.all(|(index, sample)| *sample == sample_pattern(index))
-}
-
 /// Hands the port a list of `length` numbers for its answer.
-fn finish_with(picture: &FinishingRequest, length: usize) -> Finished {
+pub fn finish(picture: &FinishingRequest, length: usize) -> Finished {
+    let (records_room, samples_room) = (picture.records_room, picture.samples_room);
     let mut finished = Finished {
         returned: 0,
-        answer: vec![UNWRITTEN; length],
-        records: (0..picture.records_room).map(record_pattern).collect(),
-        samples: (0..picture.samples_room).map(sample_pattern).collect(),
+        answer: vec![UNWRITTEN; length + BEHIND],
+        records: (0..records_room + BEHIND).map(record_pattern).collect(),
+        samples: (0..samples_room + BEHIND).map(sample_pattern).collect(),
     };
-    // The pointers and lengths are those of lists that live until the call is over.
+    // The pointers are those of lists that live until the call is over; the lengths are no greater than theirs.
     finished.returned = unsafe {
         cuzhantir_picture(
             picture.file.as_ptr(),
@@ -81,12 +70,23 @@ fn finish_with(picture: &FinishingRequest, length: usize) -> Finished {
             picture.samples.as_ptr(),
             picture.samples.len(),
             finished.records.as_mut_ptr(),
-            finished.records.len(),
+            records_room,
             finished.samples.as_mut_ptr(),
-            finished.samples.len(),
+            samples_room,
             finished.answer.as_mut_ptr(),
-            finished.answer.len(),
+            length,
         )
     };
     finished
+}
+
+/// Whether the port writes nothing at all where its list for the answer is as short as this, and says so.
+pub fn minds_its_answer(picture: &FinishingRequest, length: usize) -> bool {
+    let finished = finish(picture, length);
+    let mut records = finished.records.iter().enumerate();
+    let mut samples = finished.samples.iter().enumerate();
+    finished.returned == 0
+        && finished.answer.iter().all(|number| *number == UNWRITTEN)
+        && records.all(|(index, number)| *number == record_pattern(index))
+        && samples.all(|(index, sample)| *sample == sample_pattern(index))
 }
