@@ -3,7 +3,9 @@
 use crate::asking::{ask, last_error, Level, Message, Outcome};
 use crate::jp2::reach;
 use crate::openjpeg::{opj_image, opj_jp2};
-use crate::picture::{image, planes, Component, Plane, Unaskable};
+use crate::picture::{
+    image, image_without_samples, planes, Component, Plane, Props, Unaskable, NO_DATA,
+};
 use crate::reading::Reading;
 use crate::refusal::number_in;
 
@@ -43,6 +45,58 @@ pub fn finish(
         messages,
         planes: planes(&image),
     })
+}
+
+/// The channels of a picture that the crate finishes, before their reordering: the crate runs on the same record without
+/// definitions.
+pub(crate) fn channels(
+    reading: &Reading,
+    components: &[Component],
+    samples: &[i32],
+) -> Result<Vec<Plane>, Unaskable> {
+    let mut image = image(components, samples)?;
+    let mut jp2 = reading.jp2.clone();
+    jp2.color.jp2_cdef = None;
+    ask(|manager| reach::apply_color_postprocessing(&mut jp2, &mut image, manager));
+    Ok(planes(&image))
+}
+
+/// Where a plane comes from.
+#[derive(Clone, Copy, Debug, PartialEq, Eq)]
+pub(crate) struct Origin {
+    pub channel: usize,
+    /// No definition has set its mark.
+    pub unmarked: bool,
+}
+
+/// Which channel stands at each position after the definitions. The crate reorders components that carry their number,
+/// twice, with other marks; where the marks afterwards differ no definition has set them.
+pub(crate) fn order(reading: &Reading, channels: usize) -> Vec<Origin> {
+    let first = reordered(reading, channels, 0);
+    let second = reordered(reading, channels, 1);
+    let origin = |(first, second): (&Plane, &Plane)| Origin {
+        channel: first.props.dx as usize,
+        unmarked: first.props.alpha != second.props.alpha,
+    };
+    first.iter().zip(&second).map(origin).collect()
+}
+
+/// The crate's reordering of components that carry their number, and all the same mark.
+fn reordered(reading: &Reading, channels: usize, mark: u16) -> Vec<Plane> {
+    let numbered = |number| Component {
+        props: Props {
+            dx: number as u32,
+            alpha: mark,
+            ..Props::default()
+        },
+        data: NO_DATA,
+    };
+    let components: Vec<_> = (0..channels).map(numbered).collect();
+    let mut image = image_without_samples(&components);
+    let mut jp2 = reading.jp2.clone();
+    jp2.color.jp2_pclr = None;
+    ask(|manager| reach::apply_color_postprocessing(&mut jp2, &mut image, manager));
+    planes(&image)
 }
 
 fn is_correction(message: &Message) -> bool {

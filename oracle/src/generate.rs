@@ -1,15 +1,19 @@
-//! JP2 files to read, sound and unsound, the same for the same seed.
+//! JP2 files to read and pictures to finish, sound and unsound, the same for the same seed.
 //!
 //! [`Generator`] makes as many as are wanted: most put together box by box with here and there something wrong, some
 //! by changing bytes of these or of real pictures. [`systematic`] goes through what can be gone through whole: orders,
-//! lengths, cuts, widths and counts.
+//! lengths, cuts, widths and counts. [`Pictures`] and `arrangements.rs` do the same for pictures.
 
+mod arrangements;
 mod boxes;
 mod cases;
 mod children;
+mod colouring;
 mod contents;
 mod files;
 mod mutation;
+mod pictures;
+mod planes;
 mod random;
 mod systematic;
 
@@ -17,8 +21,13 @@ use files::Maker;
 use mutation::mutate;
 use random::Random;
 
+pub use arrangements::{
+    definition_lists, definition_orders, large_pictures, mapping_lists, palette_widths,
+    picture_edges,
+};
 pub use boxes::{plain, FREE, FTYP, IHDR, JP, JP2C, JP2H};
 pub use contents::MAGIC;
+pub use pictures::Pictures;
 pub use systematic::{edges, orders, systematic, tables};
 
 /// Files from a seed. Each is made from the seed and its number alone, so one can be had without those before it.

@@ -8,8 +8,9 @@
 //! - [`finish`]: what `opj_jp2_apply_color_postprocessing` makes of a picture, with the record from reading;
 //! - [`write`]: the bytes that the encoder's JP2 part puts before a codestream;
 //! - [`leaves`]: box kinds, box headers and numbers of 1 to 4 bytes, each by itself;
+//! - [`finished`]: what the port has to answer to a picture, by the crate and, where it says nothing, by document 01;
 //! - [`bare`]: the same runs with nothing listening and nothing copied out, for taking the time;
-//! - [`generate`]: files to read, from a seed;
+//! - [`generate`]: files to read and pictures to finish, from a seed;
 //! - [`numbers`]: what reading answers as a row of numbers, in the order that the port gives them.
 //!
 //! A panic inside the crate is an answer, [`Outcome::Panic`], and prints nothing.
@@ -71,6 +72,8 @@ mod openjpeg;
 // The interface.
 mod asking;
 pub mod bare;
+mod expected;
+pub mod finished;
 mod finishing;
 pub mod generate;
 pub mod leaves;
@@ -86,7 +89,7 @@ mod writing;
 
 pub use asking::{Level, Message, Outcome};
 pub use finishing::{finish, Finishing};
-pub use picture::{Component, Plane, Props, Unaskable, NO_DATA};
+pub use picture::{Component, FinishingRequest, Plane, Props, Unaskable, NO_DATA};
 pub use reading::{read, Reading};
 pub use record::{Definition, Mapping, Palette, Profile, Record};
 pub use writing::{write, Step, Writing, WritingRequest};

@@ -52,6 +52,53 @@ impl Component {
         };
         Some(Component { props, data })
     }
+
+    /// The same 13 numbers.
+    pub fn numbers(&self) -> [u32; 13] {
+        self.props.numbers(self.data)
+    }
+
+    /// How many samples lie in its area, whether it has samples or none.
+    pub fn area(&self) -> u64 {
+        u64::from(self.props.w) * u64::from(self.props.h)
+    }
+}
+
+impl Props {
+    /// Document 01's 13 numbers in field order, with this as the first sample's index.
+    pub fn numbers(&self, data: u32) -> [u32; 13] {
+        [
+            self.dx,
+            self.dy,
+            self.w,
+            self.h,
+            self.x0,
+            self.y0,
+            self.prec,
+            self.bpp,
+            self.sgnd,
+            self.resno_decoded,
+            self.factor,
+            data,
+            self.alpha.into(),
+        ]
+    }
+}
+
+/// Everything that a picture is finished from, in the numbers that the port is handed.
+#[derive(Clone, Debug, Default, PartialEq, Eq, Hash)]
+pub struct FinishingRequest {
+    pub file: Vec<u8>,
+    /// Any number but 0 stands for the crate's `ignore_pclr_cmap_cdef`.
+    pub ignore: u32,
+    /// 13 numbers a component, where the list is long enough.
+    pub components: Vec<u32>,
+    pub count: u32,
+    pub samples: Vec<i32>,
+    /// The length of the destination for finished records, in numbers.
+    pub records_room: usize,
+    /// The length of the destination for finished samples.
+    pub samples_room: usize,
 }
 
 /// A component as the crate left it: its properties, and its samples row by row.

@@ -7,15 +7,18 @@ pub enum Task {
     Rate,
     Compare {
         seed: u64,
-        count: u64,
+        /// Of generated files; none where reading is not compared.
+        count: Option<u64>,
         samples: Option<PathBuf>,
+        /// Of generated pictures; none where finishing is not compared.
+        pictures: Option<u64>,
     },
 }
 
 /// The task, or what is wrong with the arguments.
 pub fn parse(arguments: impl Iterator<Item = String>) -> Result<Task, String> {
     let mut arguments = arguments;
-    let (mut seed, mut count, mut samples) = (None, None, None);
+    let (mut seed, mut count, mut samples, mut pictures) = (None, None, None, None);
     while let Some(name) = arguments.next() {
         let mut value = || arguments.next().ok_or(format!("{name} lacks its value"));
         match name.as_str() {
@@ -23,14 +26,19 @@ pub fn parse(arguments: impl Iterator<Item = String>) -> Result<Task, String> {
             "--rate" => return Ok(Task::Rate),
             "--seed" => seed = Some(number(&value()?)?),
             "--count" => count = Some(number(&value()?)?),
+            "--pictures" => pictures = Some(number(&value()?)?),
             "--samples" => samples = Some(PathBuf::from(value()?)),
             _ => return Err(format!("{name} is no argument")),
         }
     }
+    if count.is_none() && pictures.is_none() {
+        return Err("--count is missing, or --pictures".to_owned());
+    }
     Ok(Task::Compare {
         seed: seed.ok_or("--seed is missing")?,
-        count: count.ok_or("--count is missing")?,
+        count,
         samples,
+        pictures,
     })
 }
 

@@ -1,8 +1,10 @@
-//! Compares the port's reading with the crate's on many files, and times both.
+//! Compares the port's reading with the crate's on many files, and its finishing on many pictures, and times both.
 
 mod arguments;
 mod check;
 mod ours;
+#[cfg_attr(not(pictures), path = "without_pictures.rs")]
+mod pictures;
 mod rate;
 mod tally;
 
@@ -25,24 +27,41 @@ fn main() -> ExitCode {
     let same = match arguments::parse(std::env::args().skip(1)) {
         Ok(Task::Help) => {
             print!("{HELP}");
-            true
+            Ok(true)
         }
-        Ok(Task::Rate) => rate::rate(),
+        Ok(Task::Rate) => Ok(rate::rate()),
         Ok(Task::Compare {
             seed,
             count,
             samples,
-        }) => match samples.as_deref().map_or(Ok(Vec::new()), pictures) {
-            Ok(samples) => compare_all(seed, count, &samples),
-            Err(error) => return stop(&format!("the samples cannot be read: {error}")),
-        },
-        Err(why) => return stop(&why),
+            pictures,
+        }) => compare_both(seed, count, samples.as_deref(), pictures),
+        Err(why) => Err(why),
     };
-    if same {
-        ExitCode::SUCCESS
-    } else {
-        ExitCode::FAILURE
+    match same {
+        Ok(true) => ExitCode::SUCCESS,
+        Ok(false) => ExitCode::FAILURE,
+        Err(why) => stop(&why),
     }
+}
+
+/// Reading, where a number of files is given, then finishing, where a number of pictures is.
+fn compare_both(
+    seed: u64,
+    count: Option<u64>,
+    samples: Option<&Path>,
+    pictures: Option<u64>,
+) -> Result<bool, String> {
+    let mut same = true;
+    if let Some(count) = count {
+        let samples = samples.map_or(Ok(Vec::new()), jp2_files);
+        let samples = samples.map_err(|error| format!("the samples cannot be read: {error}"))?;
+        same &= compare_all(seed, count, &samples);
+    }
+    if let Some(count) = pictures {
+        same &= pictures::compare(seed, count)?;
+    }
+    Ok(same)
 }
 
 fn stop(why: &str) -> ExitCode {
@@ -66,7 +85,7 @@ fn compare_all(seed: u64, count: u64, samples: &[Picture]) -> bool {
 }
 
 /// The files of a folder that have the ending of a picture, by name.
-fn pictures(folder: &Path) -> std::io::Result<Vec<Picture>> {
+fn jp2_files(folder: &Path) -> std::io::Result<Vec<Picture>> {
     let mut paths = Vec::new();
     for entry in std::fs::read_dir(folder)? {
         let path = entry?.path();

@@ -76,7 +76,7 @@ fn file_type() -> Vec<u8> {
     plain(FTYP, &ftyp(0x6a70_3220, 0, &[0x6a70_3220]))
 }
 
-fn start() -> Vec<u8> {
+pub(super) fn start() -> Vec<u8> {
     [plain(JP, &MAGIC), file_type()].concat()
 }
 
@@ -85,7 +85,7 @@ fn jp2h(children: &[Vec<u8>]) -> Vec<u8> {
 }
 
 /// A file whose `jp2h` holds these children.
-fn picture(children: &[Vec<u8>]) -> Vec<u8> {
+pub(super) fn picture(children: &[Vec<u8>]) -> Vec<u8> {
     [start(), jp2h(children), plain(JP2C, &[])].concat()
 }
 

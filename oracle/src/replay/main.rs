@@ -1,12 +1,14 @@
-//! Writes a list of files with the crate's answers, for replaying against the port.
+//! Writes a list of files and a list of pictures with the crate's answers, for replaying against the port.
 
 mod arguments;
 mod choice;
+mod pictures;
 
 use choice::Choice;
 use oracle::generate::{edges, orders, tables, Generator};
 use oracle::numbers::Numbers;
-use std::path::Path;
+use pictures::PictureChoice;
+use std::path::{Path, PathBuf};
 use std::process::ExitCode;
 
 const HELP: &str = include_str!("help.txt");
@@ -38,18 +40,31 @@ fn run(task: &arguments::Task) -> Result<(), String> {
     let arguments::Task::List {
         seed,
         pictures,
-        path,
+        files_path,
+        pictures_path,
     } = task
     else {
         print!("{HELP}");
         return Ok(());
     };
-    let read = |path: &std::path::PathBuf| {
+    if let Some(path) = files_path {
+        list_files(*seed, pictures, path)?;
+    }
+    if let Some(path) = pictures_path {
+        let choice = PictureChoice::new(*seed)?;
+        write(path, &choice.bytes())?;
+        choice.print();
+    }
+    Ok(())
+}
+
+fn list_files(seed: u64, pictures: &[PathBuf], path: &Path) -> Result<(), String> {
+    let read = |path: &PathBuf| {
         std::fs::read(path).map_err(|error| format!("{}: {error}", path.display()))
     };
     let pictures = pictures.iter().map(read).collect::<Result<Vec<_>, _>>()?;
-    let choice = choose(*seed, &pictures)?;
-    write(path, choice.cases())?;
+    let choice = choose(seed, &pictures)?;
+    write(path, &bytes(choice.cases()))?;
     choice.print();
     Ok(())
 }
@@ -77,13 +92,17 @@ fn choose(seed: u64, pictures: &[Vec<u8>]) -> Result<Choice, String> {
 
 /// The number of cases; then for each the file's length, the file, and the numbers of the answer. All numbers have 4
 /// bytes, the highest first.
-fn write(path: &Path, cases: &[(Vec<u8>, Numbers)]) -> Result<(), String> {
+fn bytes(cases: &[(Vec<u8>, Numbers)]) -> Vec<u8> {
     let mut bytes = (cases.len() as u32).to_be_bytes().to_vec();
     for (file, numbers) in cases {
         bytes.extend((file.len() as u32).to_be_bytes());
         bytes.extend(file);
         bytes.extend(numbers.iter().flat_map(|number| number.to_be_bytes()));
     }
+    bytes
+}
+
+fn write(path: &Path, bytes: &[u8]) -> Result<(), String> {
     if bytes.len() > MOST_BYTES {
         return Err(format!("the list would have {} bytes", bytes.len()));
     }

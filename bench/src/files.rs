@@ -1,0 +1,71 @@
+//! The files that are read.
+
+use oracle::generate::{plain, FTYP, IHDR, JP, JP2C, JP2H, MAGIC};
+
+const BPCC: u32 = 0x6270_6363;
+const COLR: u32 = 0x636f_6c72;
+const PCLR: u32 = 0x7063_6c72;
+const CMAP: u32 = 0x636d_6170;
+const CDEF: u32 = 0x6364_6566;
+
+/// A file with these boxes in `jp2h`, and an empty codestream.
+pub fn file(children: &[Vec<u8>]) -> Vec<u8> {
+    [
+        plain(JP, &MAGIC),
+        plain(FTYP, b"jp2 \0\0\0\0jp2 "),
+        plain(JP2H, &children.concat()),
+        plain(JP2C, &[]),
+    ]
+    .concat()
+}
+
+pub fn ihdr(width: u32, height: u32, count: u16) -> Vec<u8> {
+    let mut content = [height.to_be_bytes(), width.to_be_bytes()].concat();
+    content.extend(count.to_be_bytes());
+    content.extend([7, 7, 0, 0]);
+    plain(IHDR, &content)
+}
+
+/// Enumerated sRGB.
+pub fn colr() -> Vec<u8> {
+    plain(COLR, &[1, 0, 0, 0, 0, 0, 16])
+}
+
+pub fn bpcc(count: usize) -> Vec<u8> {
+    plain(BPCC, &vec![7; count])
+}
+
+/// 256 entries and three columns of 8 bits.
+pub fn pclr() -> Vec<u8> {
+    let entries = (0..=255u8).flat_map(|entry| [entry, entry ^ 0x55, 255 - entry]);
+    plain(
+        PCLR,
+        &[1, 0, 3, 7, 7, 7]
+            .into_iter()
+            .chain(entries)
+            .collect::<Vec<_>>(),
+    )
+}
+
+/// The three columns, for component 0.
+pub fn cmap() -> Vec<u8> {
+    plain(CMAP, &[0, 0, 1, 0, 0, 0, 1, 1, 0, 0, 1, 2])
+}
+
+/// Definitions of channel, typ and asoc.
+pub fn cdef(definitions: &[[u16; 3]]) -> Vec<u8> {
+    let count = definitions.len() as u16;
+    let numbers = [count]
+        .into_iter()
+        .chain(definitions.iter().flatten().copied());
+    plain(
+        CDEF,
+        &numbers.flat_map(u16::to_be_bytes).collect::<Vec<_>>(),
+    )
+}
+
+/// The last channel is the first colour.
+pub fn reversed(channels: u16) -> Vec<[u16; 3]> {
+    let definition = |channel| [channel, 0, channels - channel];
+    (0..channels).map(definition).collect()
+}
