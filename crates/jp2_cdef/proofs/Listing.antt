@@ -1,39 +1,26 @@
 -- The end of a run of definitions over a list: its first records are those of the arrangement, in order, and the rest is as it was.
 -- Assumes nothing.
-use Prim.Native.Nat.{ℕ, zero, suc, _+_, _-_, _*_, _/_, _%_, _≤_, _<_}
+use Prim.Native.Nat.{ℕ, _+_, _-_, _*_, _/_, _%_, _≤_, _<_}
 use mathlib.Core.Path.{_≡_, refl, ap, sym, _∙_}
 use mathlib.Core.List.{List, [], _∷_, _++_}
 use native.Mathlib.Omega.{arith}
 use native.Mathlib.Numerals.{add-one}
-use native.Mathlib.Decide.{ℕ-discrete}
 use borrow.Author.Tests.{ltb-true, ltb-false}
 use lib.Dec.{ltb}
 use lib.ListN.{length, getD, drop, length-append, length-drop, List·getD-append}
-use lib.Seq.{getD-at, getD-append-add, getD-drop, ext-getD}
+use lib.Seq.{getD-append-add, getD-drop, ext-getD}
 use Rattle.jp2_cio.specs.Table.{_=?_, _and_, otherwise, _⇒_∣_, table}
 use Rattle.jp2_cio.proofs.Rows.{row, each, either}
 use Rattle.jp2_record.specs.declared.Span.{Span}
 use Rattle.jp2_palette.specs.Cdef.{Cn, Typ, Asoc}
 use Rattle.jp2_order.specs.Definitions.{Def, def, definition, definitions, definitionsTo}
 use Rattle.jp2_order.specs.Order.{Arranged, define, run, arranged}
-use Rattle.jp2_cdef.specs.Flat.{numberOf, listed, reordered}
+use Rattle.jp2_order.specs.Flat.{flat}
+use Rattle.jp2_order.proofs.Flats.{flat-length, flat-number}
+use Rattle.jp2_cdef.specs.Flat.{numberOf, reordered}
 use Rattle.jp2_cdef.specs.Steps.{Agree}
 use Rattle.jp2_order.proofs.Exchange
 use Rattle.jp2_cdef.proofs.Agreement.{rows}
-
-length-listed : (g : ℕ → ℕ) (n : ℕ) → length (listed g n) ≡ n
-unfolding listed
-length-listed g zero = refl
-length-listed g (suc n) = simp (length-append, length-listed g n) (omega arith)
-
-getD-listed : (g : ℕ → ℕ) (n i : ℕ) → i < n → getD (listed g n) i 0 ≡ g i
-unfolding listed
-getD-listed g zero i h = absurd (omega arith)
-getD-listed g (suc n) i h = go (ℕ-discrete i n) (getD-listed g n i)
-  where
-    go : Dec (i ≡ n) → (i < n → getD (listed g n) i 0 ≡ g i) → getD (listed g n ++ (g n ∷ [])) i 0 ≡ g i
-    go (yes e) f = rw e (getD-at (listed g n) (g n) [] 0 n (length-listed g n))
-    go (no e) f = List·getD-append (listed g n) (g n ∷ []) 0 i (omega (arith, length-listed g n)) ∙ f (omega arith)
 
 -- a position past the records keeps its numbers
 module _ (n r k : ℕ) (h : n ≤ r) where
@@ -71,30 +58,30 @@ agree-more f l n i records c t s recs seat ec et es g =
 pub whole : (f : List ℕ) (cdef : Span) (n : ℕ) (l recs seat : List ℕ) → length recs ≡ length l → 13 * n ≤ length l → Agree n recs seat (arranged n (definitions f cdef) (numberOf l)) → recs ≡ reordered f cdef n l
 unfolding reordered
 whole f cdef n l recs seat e room g =
-    ext-getD 0 recs (listed at (13 * n) ++ drop (13 * n) l)
-    (simp (length-append, length-listed at (13 * n), length-drop) (omega arith))
+    ext-getD 0 recs (flat records (13 * n) ++ drop (13 * n) l)
+    (simp (length-append, flat-length records (13 * n), length-drop) (omega arith))
     (λ i h. either (ltb i (13 * n)) (λ b. low i (ltb-true i (13 * n) b)) (λ b. high i (ltb-false i (13 * n) b)))
   where
-    at : ℕ → ℕ
-    at i = arranged n (definitions f cdef) (numberOf l) .records (i / 13) (i % 13)
+    records : ℕ → ℕ → ℕ
+    records = arranged n (definitions f cdef) (numberOf l) .records
 
     parts : (i : ℕ) → 13 * (i / 13) + i % 13 ≡ i
     parts i = omega arith
 
-    here : (i : ℕ) → at i ≡ getD recs i 0
+    here : (i : ℕ) → records (i / 13) (i % 13) ≡ getD recs i 0
     here i = g .says (i / 13) (i % 13) (omega arith) ∙ ap (λ x. getD recs x 0) (parts i)
 
-    low : (i : ℕ) → i < 13 * n → getD recs i 0 ≡ getD (listed at (13 * n) ++ drop (13 * n) l) i 0
-    low i h = sym (List·getD-append (listed at (13 * n)) _ 0 i (omega (arith, length-listed at (13 * n))) ∙ getD-listed at (13 * n) i h ∙ here i)
+    low : (i : ℕ) → i < 13 * n → getD recs i 0 ≡ getD (flat records (13 * n) ++ drop (13 * n) l) i 0
+    low i h = sym (List·getD-append (flat records (13 * n)) _ 0 i (omega (arith, flat-length records (13 * n))) ∙ flat-number records (13 * n) i h ∙ here i)
 
-    rest : (i : ℕ) → 13 * n ≤ i → getD (listed at (13 * n) ++ drop (13 * n) l) i 0 ≡ getD l i 0
+    rest : (i : ℕ) → 13 * n ≤ i → getD (flat records (13 * n) ++ drop (13 * n) l) i 0 ≡ getD l i 0
     rest i h =
-        let a : i ≡ length (listed at (13 * n)) + (i - 13 * n) = omega (arith, length-listed at (13 * n)) in
+        let a : i ≡ length (flat records (13 * n)) + (i - 13 * n) = omega (arith, flat-length records (13 * n)) in
         let b : 13 * n + (i - 13 * n) ≡ i = omega arith in
-        ap (λ x. getD (listed at (13 * n) ++ drop (13 * n) l) x 0) a ∙ getD-append-add (listed at (13 * n)) _ (i - 13 * n) 0 ∙ getD-drop (13 * n) l (i - 13 * n) 0
+        ap (λ x. getD (flat records (13 * n) ++ drop (13 * n) l) x 0) a ∙ getD-append-add (flat records (13 * n)) _ (i - 13 * n) 0 ∙ getD-drop (13 * n) l (i - 13 * n) 0
         ∙ ap (λ x. getD l x 0) b
 
-    high : (i : ℕ) → 13 * n ≤ i → getD recs i 0 ≡ getD (listed at (13 * n) ++ drop (13 * n) l) i 0
+    high : (i : ℕ) → 13 * n ≤ i → getD recs i 0 ≡ getD (flat records (13 * n) ++ drop (13 * n) l) i 0
     high i h =
         sym (here i) ∙ beyond-run n (i / 13) (i % 13) (omega arith) (definitions f cdef) _ ∙ ap (λ x. getD l x 0) (parts i)
         ∙ sym (rest i h)

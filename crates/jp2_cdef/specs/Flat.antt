@@ -1,6 +1,6 @@
 -- Records of thirteen numbers in one list, and what the definitions of a file make of it.
-use Prim.Native.Nat.{ℕ, zero, suc, _+_, _*_, _/_, _%_}
-use mathlib.Core.List.{List, [], _∷_, _++_}
+use Prim.Native.Nat.{ℕ, _+_, _*_}
+use mathlib.Core.List.{List, _++_}
 use lib.ListN.{length, getD, drop}
 use Rattle.jp2_cio.specs.Table.{Test, _<?_, _or_, otherwise, _⇒_∣_, table}
 use Rattle.jp2_record.specs.declared.Span.{Span}
@@ -8,21 +8,17 @@ use Rattle.jp2_record.specs.declared.Answer.{Answer}
 use Rattle.jp2_record.specs.declared.Answer.the-variants.{Done, Refused}
 use Rattle.jp2_order.specs.Definitions.{definitions}
 use Rattle.jp2_order.specs.Order.{arranged}
+use Rattle.jp2_order.specs.Flat.{flat}
 
 -- number k of record r
 abbrev pub numberOf : List ℕ → ℕ → ℕ → ℕ
 numberOf l r k = getD l (13 * r + k) 0
 
--- the values of g below n, in order
-unfoldable pub listed : (ℕ → ℕ) → ℕ → List ℕ
-listed g zero = []
-listed g (suc n) = listed g n ++ (g n ∷ [])
-
 -- the list l with its first n records in the order of the definitions, and the rest as it was
 unfoldable pub reordered : List ℕ → Span → ℕ → List ℕ → List ℕ
 reordered f cdef n l =
     let a = arranged n (definitions f cdef) (numberOf l) in
-    listed (λ i. a .records (i / 13) (i % 13)) (13 * n) ++ drop (13 * n) l
+    flat (a .records) (13 * n) ++ drop (13 * n) l
 
 -- number 29: too many records, records outside their list, or definitions outside the file
 abbrev pub outside : List ℕ → Span → ℕ → List ℕ → Test

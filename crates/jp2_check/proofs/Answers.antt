@@ -2,22 +2,16 @@
 -- Assumes nothing.
 use mathlib.Core.Path.{_≡_, refl, sym, _∙_}
 use mathlib.Core.Bool.{Bool, true, false, _||_}
-use Rattle.jp2_cio.specs.Table.{Test, _or_, otherwise, _⇒_∣_, holds, pick, table}
-use Rattle.jp2_cio.proofs.Rows.{Says, true-false, row, each}
+use Rattle.jp2_cio.specs.Table.{Test, _or_, holds}
+use Rattle.jp2_cio.proofs.Rows.{Says, true-false}
+use Rattle.jp2_cio.proofs.Rows as rows
 
-pick-same : (b : Bool) → pick b true false ≡ b
-pick-same true = refl
-pick-same false = refl
-
+-- the laws of jp2_cio, the other way round, as an answer's equation has it
 pub shown : (b : Bool) (t : Test) → Says b t → b ≡ holds t
-unfolding table
-shown true t h = row 0 (t ⇒ true ∣ otherwise false) h refl ∙ pick-same (holds t)
-shown false t h = row 1 (t ⇒ true ∣ otherwise false) (h, tt) refl ∙ pick-same (holds t)
+shown b t h = sym (rows.shown b t h)
 
 pub said : (b : Bool) (t : Test) → b ≡ holds t → Says b t
-unfolding table
-said true t e = each (λ (x : Bool). true ≡ x → Says true t) (t ⇒ true ∣ otherwise false) ((λ h. λ z. h), λ h. λ z. true-false z) (e ∙ sym (pick-same (holds t)))
-said false t e = each (λ (x : Bool). false ≡ x → Says false t) (t ⇒ true ∣ otherwise false) ((λ h. λ z. true-false (sym z)), λ h. λ z. h) (e ∙ sym (pick-same (holds t)))
+said b t e = rows.said b t (sym e)
 
 -- one test holds where the other does
 pub same : (s t : Test) → (Says true s → Says true t) → (Says false s → Says false t) → holds s ≡ holds t

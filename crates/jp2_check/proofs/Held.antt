@@ -15,7 +15,7 @@ use Rattle.jp2_check.specs.declared.Checked.the-variants.{Passed, Refuse
 use Rattle.jp2_check.specs.Checked.{checked}
 use Rattle.jp2_check.specs.Parts.{Inside, misnamedAt, undefinedAt, Named}
 use Rattle.jp2_check.proofs.Answers.{said}
-use Rattle.jp2_check.proofs.Lowest.{lowest-past}
+use Rattle.jp2_picture.proofs.Indices.{lowest-past}
 
 module _ (f : List ℕ) (m : Jp2) {z : Bool} (out : z ≡ holds (outsideFile f m)) (left : z ≡ false) where
   o : Says false (outsideFile f m)

@@ -15,7 +15,7 @@ use Rattle.jp2_palette.specs.Cdef.{Cn}
 use Rattle.jp2_picture.specs.Channels.{lowest}
 use Rattle.jp2_check.specs.Parts.{mark, undefinedAt, unmarked}
 use Rattle.jp2_check.proofs.Answers.{same}
-use Rattle.jp2_check.proofs.Lowest.{lowest-most, lowest-same}
+use Rattle.jp2_picture.proofs.Indices.{lowest-most, lowest-same}
 
 -- before any is set
 pub unset : (n c : ℕ) → _≡_ {A = ℕ} (getD (replicate n 0) c 0) 0

@@ -3,3 +3,4 @@ pub mod Steps
 pub mod Counting
 pub mod Runs
 pub mod Rules
+pub mod Flats

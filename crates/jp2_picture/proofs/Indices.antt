@@ -1,10 +1,12 @@
--- The lowest index that passes a test: it passes, or no index does.
+-- The lowest index that passes a test: it passes, or no index does; and the laws of every loop that looks for it.
 -- Assumes nothing.
 use Prim.Native.Nat.{ℕ, zero, suc, _≤_, _<_}
-use mathlib.Core.Path.{_≡_, refl, subst, sym}
+use mathlib.Core.Path.{_≡_, refl, sym, subst, _∙_}
 use mathlib.Core.Bool.{true, false}
+use native.Mathlib.Nat.{eq-or-lt-of-le, le-of-suc-le-suc}
 use native.Mathlib.Omega.{arith}
-use Rattle.jp2_cio.specs.Table.{Test, _=?_, otherwise, _⇒_∣_}
+use mathlib.Core.Logic.{⊎-elim}
+use Rattle.jp2_cio.specs.Table.{Test, _=?_, otherwise, _⇒_∣_, holds, table}
 use Rattle.jp2_cio.proofs.Rows.{Says, each, row}
 use Rattle.jp2_picture.specs.Channels.{lowest}
 
@@ -43,10 +45,43 @@ module _ (t : ℕ → Test) where
       ) l
 
   -- and where none passes, it is not
-  none-is : (n : ℕ) → ((i : ℕ) → i < n → Says false (t i)) → n ≡ lowest t n
+  pub none-is : (n : ℕ) → ((i : ℕ) → i < n → Says false (t i)) → n ≡ lowest t n
   unfolding lowest
   none-is zero f = refl
   none-is (suc n) f = row 2 _ (omega (arith, none-is n (λ i h. f i (omega arith))), (f n (omega arith), tt)) refl
 
   pub none-lowest : (n : ℕ) → ((i : ℕ) → i < n → Says false (t i)) → n ≤ lowest t n
   none-lowest n f = omega (arith, none-is n f)
+
+  lowest-last : (n : ℕ) → ((i : ℕ) → i < n → Says false (t i)) → Says true (t n) → n ≡ lowest t (suc n)
+  unfolding lowest
+  lowest-last n h p = let e = none-is n h in row 1 _ (omega arith, p) refl
+
+  -- it is j where j passes and no index below j does
+  pub lowest-first : (j n : ℕ) → ((i : ℕ) → i < j → Says false (t i)) → Says true (t j) → j < n → j ≡ lowest t n
+  unfolding lowest
+  lowest-first j zero h p l = absurd (omega arith)
+  lowest-first j (suc n) h p l =
+      ⊎-elim (λ e. e ∙ lowest-last n (λ i b. h i (omega arith)) (subst (λ (m : ℕ). Says true (t m)) e p))
+      (λ b. let e = lowest-first j n h p b in row 0 _ (omega arith) e)
+      (eq-or-lt-of-le (le-of-suc-le-suc l))
+
+  -- no index below it passes
+  pub lowest-past : (n i : ℕ) → i < lowest t n → Says false (t i)
+  unfolding lowest
+  lowest-past zero i l = absurd (omega arith)
+  lowest-past (suc n) i l =
+      each (λ (x : ℕ). i < x → Says false (t i)) _ (
+        (λ h. λ b. lowest-past n i b),
+        λ h. (
+          (λ p. λ b. lowest-past n i (omega arith)),
+          λ p. λ b. ⊎-elim (λ e. subst (λ (m : ℕ). Says false (t m)) (sym e) p) (λ d. lowest-past n i (omega arith)) (eq-or-lt-of-le (le-of-suc-le-suc b)),
+        ),
+      )
+      l
+
+-- tests that agree below n have the same lowest index
+pub lowest-same : (s t : ℕ → Test) (n : ℕ) → ((i : ℕ) → i < n → holds (s i) ≡ holds (t i)) → lowest s n ≡ lowest t n
+unfolding lowest table
+lowest-same s t zero h = refl
+lowest-same s t (suc n) h = let e = lowest-same s t n (λ i l. h i (omega arith)) in let d = h n (omega arith) in rw (e, d)

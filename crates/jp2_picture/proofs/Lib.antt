@@ -1,5 +1,4 @@
 pub mod Indices
-pub mod Flats
 pub mod Packs
 pub mod Checks
 pub mod Listed

@@ -28,11 +28,12 @@ use Rattle.jp2_reading.specs.Range.{range}
 use Rattle.jp2_reading.specs.Alike.{given, Alike}
 use Rattle.jp2_order.specs.Definitions.{Def, def, definitionsTo, definitions}
 use Rattle.jp2_order.specs.Order.{exchange, define}
+use Rattle.jp2_order.specs.Flat.{flat}
 use Rattle.jp2_order.specs.Order as order
 use Rattle.jp2_picture.specs.Image.{Image, size}
 use Rattle.jp2_picture.specs.Channels.{lowest, channels, componentOf, typeOf}
 use Rattle.jp2_picture.specs.Samples.{displayed, lookup, valueOf, channelSamples, packed, startOf}
-use Rattle.jp2_picture.specs.Finish.{counted, expanded, flat, picture, coloured, finish}
+use Rattle.jp2_picture.specs.Finish.{counted, expanded, picture, coloured, finish}
 use Rattle.jp2_picture.specs.Words.{Handed, Accepted}
 use Rattle.jp2_picture.specs.Met.{otherwise-turned, directFile, direct, directPlanes, palettedFile, paletted, palettedPlanes, Met, DirectMet, PaletteMet}
 use Rattle.jp2_picture.proofs.Distinct.{once-pairwise, swapped, alike-parts}

@@ -19,7 +19,7 @@ use Rattle.jp2_picture.specs.Channels.{channels}
 use Rattle.jp2_picture.specs.Finish.{expanded, picture}
 use Rattle.jp2_picture.specs.Words.{Handed, Accepted, IsAccepted, Defined, Clear}
 use Rattle.jp2_picture.specs.OrderFreedom.{withFile, AlikeButOrder, SamePlanes, OrderFreedom}
-use Rattle.jp2_picture.proofs.Flats.{flat-at}
+use Rattle.jp2_order.proofs.Flats.{flat-at}
 use Rattle.jp2_picture.proofs.Checks.{passed, passes, applied}
 use Rattle.jp2_picture.proofs.Mappings.{Kept, kept, channels-few}
 use Rattle.jp2_picture.proofs.Agrees.{Agree, packed-same, expanded-same}

@@ -21,7 +21,7 @@ use Rattle.jp2_picture.specs.Finish.{outsideLists, expanded, picture}
 use Rattle.jp2_picture.specs.Words.{Handed, Clear, Fills}
 use Rattle.jp2_picture.specs.PictureRule.{RightPlanes, PictureRule}
 use Rattle.jp2_picture.proofs.Indices.{decide}
-use Rattle.jp2_picture.proofs.Flats.{flat-at}
+use Rattle.jp2_order.proofs.Flats.{flat-at}
 use Rattle.jp2_picture.proofs.Packs.{start-more, packed-at}
 use Rattle.jp2_picture.proofs.Checks.{Checked, made, applied}
 use Rattle.jp2_picture.proofs.Listed.{occurs}

@@ -23,11 +23,12 @@ use Rattle.jp2_file.specs.File as file
 use Rattle.jp2_reading.specs.Alike.{given}
 use Rattle.jp2_order.specs.Definitions.{Def, def, definitionsTo}
 use Rattle.jp2_order.specs.Order.{exchange, define}
+use Rattle.jp2_order.specs.Flat.{flat}
 use Rattle.jp2_order.specs.Order as order
 use Rattle.jp2_picture.specs.Image.{Image, component, sampleAt, size}
 use Rattle.jp2_picture.specs.Channels.{lowest, channels, componentOf, typeOf}
 use Rattle.jp2_picture.specs.Samples.{displayed, lookup, valueOf, channelSamples, packed, startOf}
-use Rattle.jp2_picture.specs.Finish.{Finishing, finished, declined, counted, expanded, flat, picture, coloured, finish}
+use Rattle.jp2_picture.specs.Finish.{Finishing, finished, declined, counted, expanded, picture, coloured, finish}
 
 -- LBox, TBox and the content
 abbrev pub box : ℕ → List ℕ → List ℕ

@@ -1,7 +1,6 @@
 -- Finishing a picture with the record that reading its file gave: numbers 29, 25 to 28 and 30, in that order, or the finished picture.
-use Prim.Native.Nat.{ℕ, zero, suc, _+_, _*_, _/_, _%_}
-use mathlib.Core.List.{List, [], _∷_, _++_}
-use lib.IntN.{ℤ}
+use Prim.Native.Nat.{ℕ, _+_, _*_}
+use mathlib.Core.List.{List}
 use lib.ListN.{length}
 use Rattle.jp2_cio.specs.Table.{Test, _=?_, _≠?_, _<?_, _or_, _and_, Rows, otherwise, _⇒_∣_, table}
 use Rattle.jp2_record.specs.declared.Jp2.{Jp2}
@@ -9,6 +8,7 @@ use Rattle.jp2_record.specs.Record.{span, palette, withPclr, withCmap, withCdef
 use Rattle.jp2_palette.specs.Pclr.{depth, sign, B, rowSize}
 use Rattle.jp2_order.specs.Definitions.{definitions}
 use Rattle.jp2_order.specs.Order.{arranged}
+use Rattle.jp2_order.specs.Flat.{flat}
 use Rattle.jp2_picture.specs.Image.{Image, component, width, height, first, none}
 use Rattle.jp2_picture.specs.Channels.{lowest, some, mapped, channels, componentOf}
 use Rattle.jp2_picture.specs.Samples.{packed, startOf}
@@ -48,11 +48,6 @@ expanded f m i c k =
     ∣ mapped m and k =? 8 ⇒ sign (B f (m .lists .pclr) c)
     ∣ first i r ≠? none and k =? 11 ⇒ startOf f m i c
     ∣ otherwise (component i r k))
-
--- the first n numbers of records that are 13 numbers each
-unfoldable pub flat : (ℕ → ℕ → ℕ) → ℕ → List ℕ
-flat records zero = []
-flat records (suc n) = flat records n ++ (records (n / 13) (n % 13) ∷ [])
 
 -- the finished picture: the channels' records in the order that the definitions give, and the channels' samples
 unfoldable pub picture : List ℕ → Jp2 → Image → Image

@@ -8,7 +8,7 @@ use borrow.Author.Count.{below-more}
 use Rattle.jp2_cio.proofs.Rows.{Says}
 use Rattle.jp2_record.specs.Record.{span}
 use Rattle.jp2_check.specs.Parts.{directAt}
-use Rattle.jp2_check.proofs.Lowest.{lowest-none, lowest-first}
+use Rattle.jp2_picture.proofs.Indices.{none-is, lowest-first}
 use Rattle.jp2_check.proofs.first_direct.Statement.{statement}
 use Rattle.jp2_check.proofs.first_direct.Tie as tie
 
@@ -46,7 +46,7 @@ loop-again : tie.Need-loop-again Inv-loop μ-loop
 loop-again c = let a = c .before .before .before .before .before .args in let l = c .before .before .before .loop in (omega arith, below-more (λ i. Says false (directAt (a .f .now) (a .l) i)) (l .c) (l .inv .1) (λ p. omega arith))
 
 returns-2 : tie.Need-returns-2 Inv-loop μ-loop
-returns-2 c = let a = c .before .before .before .args in lowest-none (directAt (a .f .now) (a .l)) (a .l .count) (λ i h. c .before .loop .inv .1 i (omega arith))
+returns-2 c = let a = c .before .before .before .args in none-is (directAt (a .f .now) (a .l)) (a .l .count) (λ i h. c .before .loop .inv .1 i (omega arith))
 
 pub first-direct-spec : {M : Type 1} → statement M
 first-direct-spec =

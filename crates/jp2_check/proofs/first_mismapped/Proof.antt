@@ -8,7 +8,7 @@ use borrow.Author.Count.{below-more}
 use Rattle.jp2_cio.proofs.Rows.{Says}
 use Rattle.jp2_check.specs.Parts.{mismappedAt}
 use Rattle.jp2_check.proofs.Answers.{said}
-use Rattle.jp2_check.proofs.Lowest.{lowest-none, lowest-first}
+use Rattle.jp2_picture.proofs.Indices.{none-is, lowest-first}
 use Rattle.jp2_check.proofs.first_mismapped.Statement.{statement}
 use Rattle.jp2_check.proofs.first_mismapped.Tie as tie
 
@@ -37,7 +37,7 @@ loop-again : tie.Need-loop-again Inv-loop μ-loop
 loop-again c = let a = c .before .before .before .before .before .args in let l = c .before .before .before .loop in (omega arith, below-more (λ i. Says false (mismappedAt (a .f .now) (a .l) (a .n) i)) (l .c) (l .inv .1) (said false (mismappedAt (a .f .now) (a .l) (a .n) (l .c)) (sym (c .if1 .left) ∙ c .before .is-mismapped .ensures)))
 
 returns-2 : tie.Need-returns-2 Inv-loop μ-loop
-returns-2 c = let a = c .before .before .before .args in lowest-none (mismappedAt (a .f .now) (a .l) (a .n)) (a .l .count) (λ i h. c .before .loop .inv .1 i (omega arith))
+returns-2 c = let a = c .before .before .before .args in none-is (mismappedAt (a .f .now) (a .l) (a .n)) (a .l .count) (λ i h. c .before .loop .inv .1 i (omega arith))
 
 pub first-mismapped-spec : {M : Type 1} → statement M
 first-mismapped-spec =

@@ -8,7 +8,7 @@ use borrow.Author.Count.{below-more}
 use Rattle.jp2_cio.proofs.Rows.{Says}
 use Rattle.jp2_check.specs.Parts.{misnamedAt}
 use Rattle.jp2_check.proofs.Answers.{said}
-use Rattle.jp2_check.proofs.Lowest.{lowest-none, lowest-first}
+use Rattle.jp2_picture.proofs.Indices.{none-is, lowest-first}
 use Rattle.jp2_check.proofs.first_misnamed.Statement.{statement}
 use Rattle.jp2_check.proofs.first_misnamed.Tie as tie
 
@@ -37,7 +37,7 @@ loop-again : tie.Need-loop-again Inv-loop μ-loop
 loop-again c = let a = c .before .before .before .before .before .args in let l = c .before .before .before .loop in (omega arith, below-more (λ i. Says false (misnamedAt (a .f .now) (a .l) (a .k) i)) (l .j) (l .inv .1) (said false (misnamedAt (a .f .now) (a .l) (a .k) (l .j)) (sym (c .if1 .left) ∙ c .before .is-misnamed .ensures)))
 
 returns-2 : tie.Need-returns-2 Inv-loop μ-loop
-returns-2 c = let a = c .before .before .before .args in lowest-none (misnamedAt (a .f .now) (a .l) (a .k)) (a .l .count) (λ i h. c .before .loop .inv .1 i (omega arith))
+returns-2 c = let a = c .before .before .before .args in none-is (misnamedAt (a .f .now) (a .l) (a .k)) (a .l .count) (λ i h. c .before .loop .inv .1 i (omega arith))
 
 pub first-misnamed-spec : {M : Type 1} → statement M
 first-misnamed-spec =

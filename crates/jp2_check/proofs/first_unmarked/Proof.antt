@@ -6,7 +6,7 @@ use mathlib.Core.Bool.{false}
 use borrow.Author.Count.{below-more}
 use Rattle.jp2_cio.proofs.Rows.{Says}
 use Rattle.jp2_check.specs.Parts.{unmarked}
-use Rattle.jp2_check.proofs.Lowest.{lowest-none, lowest-first}
+use Rattle.jp2_picture.proofs.Indices.{none-is, lowest-first}
 use Rattle.jp2_check.proofs.first_unmarked.Statement.{statement}
 use Rattle.jp2_check.proofs.first_unmarked.Tie as tie
 
@@ -38,7 +38,7 @@ loop-again : tie.Need-loop-again Inv-loop μ-loop
 loop-again c = let l = c .before .before .before .loop in (omega arith, below-more (λ i. Says false (unmarked (c .before .before .before .before .args .seen .now) i)) (l .c) (l .inv .1) (λ p. c .if1 .left))
 
 returns-2 : tie.Need-returns-2 Inv-loop μ-loop
-returns-2 c = let a = c .before .before .args in lowest-none (unmarked (a .seen .now)) (a .k) (λ i h. c .before .loop .inv .1 i (omega arith))
+returns-2 c = let a = c .before .before .args in none-is (unmarked (a .seen .now)) (a .k) (λ i h. c .before .loop .inv .1 i (omega arith))
 
 pub first-unmarked-spec : {M : Type 1} → statement M
 first-unmarked-spec =

@@ -2,12 +2,12 @@
 -- Assumes nothing.
 use Prim.Native.Nat.{ℕ, zero, suc, _+_, _*_, _/_, _%_, _<_}
 use mathlib.Core.Path.{_≡_, refl, _∙_}
-use mathlib.Core.List.{[]}
+use mathlib.Core.List.{[], _∷_, _++_}
 use native.Mathlib.Omega.{arith}
 use lib.ListN.{length, getD, length-append, List·getD-append}
 use lib.Seq.{getD-at}
-use Rattle.jp2_picture.specs.Finish.{flat}
-use Rattle.jp2_picture.proofs.Indices.{last-or}
+use Rattle.jp2_order.specs.Flat.{flat}
+use native.Mathlib.Decide.{ℕ-discrete}
 
 module _ (records : ℕ → ℕ → ℕ) where
   pub flat-length : (n : ℕ) → length (flat records n) ≡ n
@@ -15,13 +15,14 @@ module _ (records : ℕ → ℕ → ℕ) where
   flat-length zero = refl
   flat-length (suc n) = rw length-append (omega (arith, flat-length n))
 
-  flat-number : (n i : ℕ) → i < n → getD (flat records n) i 0 ≡ records (i / 13) (i % 13)
+  pub flat-number : (n i : ℕ) → i < n → getD (flat records n) i 0 ≡ records (i / 13) (i % 13)
   unfolding flat
   flat-number zero i h = absurd (omega arith)
-  flat-number (suc n) i h =
-      last-or n i h
-      (λ e. rw e (getD-at (flat records n) (records (n / 13) (n % 13)) [] 0 n (flat-length n)))
-      (λ b. List·getD-append (flat records n) _ 0 i (omega (arith, flat-length n)) ∙ flat-number n i b)
+  flat-number (suc n) i h = go (ℕ-discrete i n) (flat-number n i)
+    where
+      go : Dec (i ≡ n) → (i < n → getD (flat records n) i 0 ≡ records (i / 13) (i % 13)) → getD (flat records n ++ (records (n / 13) (n % 13) ∷ [])) i 0 ≡ records (i / 13) (i % 13)
+      go (yes e) f = rw e (getD-at (flat records n) (records (n / 13) (n % 13)) [] 0 n (flat-length n))
+      go (no e) f = List·getD-append (flat records n) _ 0 i (omega (arith, flat-length n)) ∙ f (omega arith)
 
   pub flat-at : (n p k : ℕ) → p < n → k < 13 → getD (flat records (13 * n)) (13 * p + k) 0 ≡ records p k
   flat-at n p k h l =
