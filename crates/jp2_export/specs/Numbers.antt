@@ -1,4 +1,4 @@
--- An answer and its record as a list of numbers, for callers that take numbers alone. The header of the exports names their places.
+-- An answer and its record as a list of numbers, for callers that take numbers alone.
 use Prim.Native.Nat.{ℕ}
 use mathlib.Core.List.{List, [], _∷_, _++_}
 use lib.ListN.{length, getD, drop}

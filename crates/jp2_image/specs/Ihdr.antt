@@ -1,4 +1,4 @@
--- I.5.3.1, Image Header box: HEIGHT (4 bytes), WIDTH (4), NC (2), BPC, C, UnkC and IPR (1 each). Differences 5 and 6: a further ihdr is skipped, and BPC, C, UnkC and IPR
+-- I.5.3.1, Image Header box: HEIGHT (4 bytes), WIDTH (4), NC (2), BPC, C, UnkC and IPR (1 each). Differences 5 and 6: a further ihdr is skipped whatever its length, and BPC, C, UnkC and IPR
 -- may have any value.
 use Prim.Native.Nat.{ℕ}
 use mathlib.Core.List.{List}
