@@ -1,5 +1,6 @@
 pub mod Indices
 pub mod Packs
+pub mod Rests
 pub mod Checks
 pub mod Listed
 pub mod Mappings

@@ -61,7 +61,7 @@ module _ (f : List ℕ) (m : Jp2) (i : Image) where
   abbrev pub Held : ℕ → Type 0
   Held n = (c : ℕ) → c < n → Within i (componentOf f m c)
 
-  packed-length : (n : ℕ) → Held n → length (packed f m i n) ≡ startOf f m i n
+  pub packed-length : (n : ℕ) → Held n → length (packed f m i n) ≡ startOf f m i n
   unfolding packed startOf
   packed-length zero held = refl
   packed-length (suc n) held = rw length-append (omega (arith, packed-length n (λ c h. held c (omega arith)), channel-length n (held n (omega arith))))

@@ -10,6 +10,9 @@ pub record Image : Type 0 where
   pub count : ℕ
   pub samples : List ℤ
 
+abbrev pub image : List ℕ → ℕ → List ℤ → Image
+image components count samples = record { components = components; count = count; samples = samples }
+
 -- number k of component c, in the order of the crate's opj_image_comp: dx, dy, w, h, x0, y0, prec, bpp, sgnd, resno_decoded, factor, data, alpha
 abbrev pub component : Image → ℕ → ℕ → ℕ
 component i c k = getD (i .components) (13 * c + k) 0

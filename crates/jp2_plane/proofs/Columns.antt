@@ -1,17 +1,17 @@
 -- A palette's column: its entries as they are read, the entry that a sample picks, and what a channel makes of its samples.
 -- Assumes nothing.
 use Prim.Native.Nat.{ℕ, zero, suc, _+_, _-_, _*_, _≤_, _<_}
-use native.Mathlib.Nat.{zero-add, eq-or-lt-of-le, suc-mul}
+use native.Mathlib.Nat.{eq-or-lt-of-le, suc-mul}
 use native.Mathlib.Numerals.{add-one}
 use native.Mathlib.Omega.{arith}
 use mathlib.Core.Path.{_≡_, refl, sym, ap, _∙_}
 use mathlib.Core.Logic.{⊎-elim}
 use mathlib.Core.List.{List, [], _∷_, map, map-id}
 use lib.IntN.{ℤ, pos}
-use lib.ListN.{length, getD, take, drop, length-append, length-drop, List·getD-append}
-use lib.Seq.{take-all, getD-drop, getD-at}
+use lib.ListN.{length, getD, take, drop, length-append, List·getD-append}
+use lib.Seq.{getD-at}
 use Rattle.jp2_cio.specs.Table.{_=?_, otherwise, _⇒_∣_}
-use Rattle.jp2_cio.specs.Number.{number, least}
+use Rattle.jp2_cio.specs.Number.{number, part, least}
 use Rattle.jp2_cio.proofs.Rows.{row, each}
 use Rattle.jp2_record.specs.declared.Palette.{Palette}
 use Rattle.jp2_palette.specs.Pclr.{entryBytes, rowBytes, B, rowSize, Cji}
@@ -20,6 +20,7 @@ use Rattle.jp2_record.specs.declared.Jp2.{Jp2}
 use Rattle.jp2_picture.specs.Image.{Image, first, size}
 use Rattle.jp2_picture.specs.Channels.{componentOf, typeOf}
 use Rattle.jp2_picture.specs.Samples.{floored, held, displayed, lookup, valueOf, channelSamples}
+use Rattle.jp2_picture.proofs.Rests.{rest-length, rest-number, rest-row}
 use Rattle.jp2_plane.specs.Plane.{plane, placed, column, entryFor, valueFor}
 
 -- the lesser of two is at most the second, and is the first where that is at most the second
@@ -37,31 +38,18 @@ map-same e (s ∷ l) = cc (e s, map-same e l)
 abbrev pub restOf : List ℕ → ℕ → List ℕ
 restOf f k = take (length f - k) (drop k f)
 
-rest-drop : (f : List ℕ) (k : ℕ) → restOf f k ≡ drop k f
-rest-drop f k = take-all (length f - k) (drop k f) (rw length-drop (omega arith))
-
-pub length-rest : (f : List ℕ) (k : ℕ) → length (restOf f k) ≡ length f - k
-length-rest f k = ap length (rest-drop f k) ∙ length-drop k f
-
--- its numbers and rows
 module _ (f : List ℕ) (k : ℕ) where
-  number-drop : (at n : ℕ) → number (drop k f) at n ≡ number f (k + at) n
-  unfolding number
-  number-drop at zero = refl
-  number-drop at (suc n) =
-      let e : k + (at + n) ≡ k + at + n = omega arith in
-      rw (number-drop at n, getD-drop, e)
+  pub length-rest : length (restOf f k) ≡ length f - k
+  unfolding part
+  length-rest = rest-length f k
 
-  row-drop : (n : ℕ) → rowBytes (drop k f) 0 n ≡ rowBytes f k n
-  unfolding rowBytes
-  row-drop zero = refl
-  row-drop (suc n) = rw (row-drop n, number-drop (0 + n) 1, zero-add n)
+  pub row-rest : (n : ℕ) → rowBytes (restOf f k) 0 n ≡ rowBytes f k n
+  unfolding part
+  row-rest n = rest-row f k n
 
-pub row-rest : (f : List ℕ) (k n : ℕ) → rowBytes (restOf f k) 0 n ≡ rowBytes f k n
-row-rest f k n = ap (λ x. rowBytes x 0 n) (rest-drop f k) ∙ row-drop f k n
-
-pub number-rest : (f : List ℕ) (k at n : ℕ) → number (restOf f k) at n ≡ number f (k + at) n
-number-rest f k at n = ap (λ x. number x at n) (rest-drop f k) ∙ number-drop f k at n
+  pub number-rest : (at n : ℕ) → number (restOf f k) at n ≡ number f (k + at) n
+  unfolding part
+  number-rest at n = rest-number f k at n
 
 -- so many rows, and one more
 pub rows-are : (f : List ℕ) (p : Palette) (n : ℕ) {row : ℕ} → row ≡ rowBytes (restOf f (p .place)) 0 (p .columns) → n * row ≡ n * rowSize f p
