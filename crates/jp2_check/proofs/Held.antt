@@ -14,7 +14,7 @@ use Rattle.jp2_picture.specs.Finish.{outsideFile}
 use Rattle.jp2_check.specs.declared.Checked.the-variants.{Passed, Refused}
 use Rattle.jp2_check.specs.Checked.{checked}
 use Rattle.jp2_check.specs.Parts.{Inside, misnamedAt, undefinedAt, Named}
-use Rattle.jp2_check.proofs.Answers.{said}
+use Rattle.jp2_comps.proofs.Answers.{said}
 use Rattle.jp2_picture.proofs.Indices.{lowest-past}
 
 module _ (f : List ℕ) (m : Jp2) {z : Bool} (out : z ≡ holds (outsideFile f m)) (left : z ≡ false) where

@@ -1,4 +1,3 @@
-pub mod Answers
 pub mod Marks
 pub mod Columns
 pub mod Held

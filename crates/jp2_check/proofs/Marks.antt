@@ -14,7 +14,7 @@ use Rattle.jp2_record.specs.declared.Span.{Span}
 use Rattle.jp2_palette.specs.Cdef.{Cn}
 use Rattle.jp2_picture.specs.Channels.{lowest}
 use Rattle.jp2_check.specs.Parts.{mark, undefinedAt, unmarked}
-use Rattle.jp2_check.proofs.Answers.{same}
+use Rattle.jp2_comps.proofs.Answers.{same}
 use Rattle.jp2_picture.proofs.Indices.{lowest-most, lowest-same}
 
 -- before any is set

@@ -97,17 +97,6 @@ pub fn outside_file(f: &[u8], m: Jp2) -> bool
     definitions_outside(f, lists.cdef)
 }
 
-// How many channels a picture of n components has.
-fn channel_count(m: Jp2, n: u32) -> u32
-    ensures { λ r. ⌜ r ≡ channels m n ⌝ }
-{
-    let lists = m.lists;
-    if lists.cmap.count != 0 {
-        return lists.pclr.columns;
-    }
-    n
-}
-
 // Whether definition j names a channel, or a colour, that is not below k.
 fn is_misnamed(f: &[u8], l: Span, k: u32, j: usize) -> bool
     requires { ⌜ l .place + 6 * (j + 1) ≤ length (now f) ⌝ }
@@ -275,7 +264,7 @@ pub fn opj_jp2_check_color(f: &[u8], m: Jp2, n: u32) -> Checked
     if outside_file(f, m) {
         return Checked::Refused(29, 0);
     }
-    let k = channel_count(m, n);
+    let k = jp2_comps::channel_count(m, n);
     let wrong = first_misnamed(f, lists.cdef, k);
     if wrong < definitions {
         return Checked::Refused(25, wrong as u32);

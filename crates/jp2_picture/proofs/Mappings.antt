@@ -10,6 +10,7 @@ use Rattle.jp2_record.specs.declared.Jp2.{Jp2}
 use Rattle.jp2_palette.specs.Cmap.{CMP}
 use Rattle.jp2_picture.specs.Image.{Image}
 use Rattle.jp2_picture.specs.Channels.{mapped, channels, componentOf, typeOf}
+use Rattle.jp2_picture.specs.Check.{mismapped}
 use Rattle.jp2_picture.specs.Finish.{outsideLists, outsideFile}
 use Rattle.jp2_picture.specs.Words.{Handed}
 use Rattle.jp2_picture.proofs.Indices.{lowest-none}
@@ -59,12 +60,15 @@ module _ (m : Jp2) where
     plain-type n h = sym (row 2 _ ((λ z. absurd (z h)), (h, tt)) refl)
 
 -- every channel's component exists, and its samples lie in the list
-module _ (h : Handed) (m : Jp2) (kept : Kept m) (checked : Checked h m) (c : ℕ) (l : c < channels m (h .image .count)) where
-  component-below : componentOf (h .file) m c < h .image .count
+module _ (f : List ℕ) (m : Jp2) (i : Image) (kept : Kept m) (mapping : (c : ℕ) → c < m .lists .cmap .count → Says false (mismapped f m (i .count) c)) (c : ℕ) (l : c < channels m (i .count)) where
+  component-below : componentOf f m c < i .count
   component-below =
-      channel-cases m (h .image .count) c kept l
-      (λ t b. omega (arith, mapped-component m (h .file) c t, checked .mapping c b .0))
-      (λ t b. omega (arith, plain-component m (h .file) c t))
+      channel-cases m (i .count) c kept l
+      (λ t b. omega (arith, mapped-component m f c t, mapping c b .0))
+      (λ t b. omega (arith, plain-component m f c t))
 
-  pub component-within : Says false (outsideLists (h .image)) → Within (h .image) (componentOf (h .file) m c)
-  component-within inside = lowest-none _ _ (inside .1 .1 .1) (componentOf (h .file) m c) component-below
+  pub component-inside : Says false (outsideLists i) → Within i (componentOf f m c)
+  component-inside inside = lowest-none _ _ (inside .1 .1 .1) (componentOf f m c) component-below
+
+pub component-within : (h : Handed) (m : Jp2) → Kept m → Checked h m → (c : ℕ) → c < channels m (h .image .count) → Says false (outsideLists (h .image)) → Within (h .image) (componentOf (h .file) m c)
+component-within h m kept checked = component-inside (h .file) m (h .image) kept (checked .mapping)

@@ -7,7 +7,7 @@ use mathlib.Core.Bool.{true, false}
 use borrow.Author.Count.{below-more}
 use Rattle.jp2_cio.proofs.Rows.{Says}
 use Rattle.jp2_check.specs.Parts.{misnamedAt}
-use Rattle.jp2_check.proofs.Answers.{said}
+use Rattle.jp2_comps.proofs.Answers.{said}
 use Rattle.jp2_picture.proofs.Indices.{none-is, lowest-first}
 use Rattle.jp2_check.proofs.first_misnamed.Statement.{statement}
 use Rattle.jp2_check.proofs.first_misnamed.Tie as tie

@@ -3,7 +3,7 @@
 use native.Mathlib.Omega.{arith}
 use mathlib.Core.Bool.{true, false}
 use Rattle.jp2_check.specs.Parts.{correctedAt}
-use Rattle.jp2_check.proofs.Answers.{shown}
+use Rattle.jp2_comps.proofs.Answers.{shown}
 use Rattle.jp2_check.proofs.is_corrected.Statement.{statement}
 use Rattle.jp2_check.proofs.is_corrected.Tie as tie
 

@@ -5,7 +5,7 @@ use borrow.Author.Needs.{needs}
 use mathlib.Core.Bool.{true}
 use Rattle.jp2_cio.specs.Table.{_≠?_}
 use Rattle.jp2_check.specs.Parts.{mismappedAt}
-use Rattle.jp2_check.proofs.Answers.{shown, same}
+use Rattle.jp2_comps.proofs.Answers.{shown, same}
 use Rattle.jp2_check.proofs.is_mismapped.Statement.{statement}
 use Rattle.jp2_check.proofs.is_mismapped.Tie as tie
 

@@ -4,7 +4,7 @@ use native.Mathlib.Omega.{arith}
 use borrow.Author.Needs.{needs}
 use mathlib.Core.Bool.{true, false}
 use Rattle.jp2_check.specs.Parts.{misnamedAt}
-use Rattle.jp2_check.proofs.Answers.{shown}
+use Rattle.jp2_comps.proofs.Answers.{shown}
 use Rattle.jp2_check.proofs.is_misnamed.Statement.{statement}
 use Rattle.jp2_check.proofs.is_misnamed.Tie as tie
 

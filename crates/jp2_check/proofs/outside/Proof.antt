@@ -6,7 +6,7 @@ use Prim.Native.Nat.{_+_}
 use mathlib.Core.Bool.{true, false}
 use lib.ListN.{length}
 use Rattle.jp2_cio.specs.Table.{_<?_}
-use Rattle.jp2_check.proofs.Answers.{shown}
+use Rattle.jp2_comps.proofs.Answers.{shown}
 use Rattle.jp2_check.proofs.outside.Statement.{statement}
 use Rattle.jp2_check.proofs.outside.Tie as tie
 

@@ -1,11 +1,11 @@
--- `jp2_check::channel_count` meets its contract.
+-- `jp2_comps::channel_count` meets its contract.
 -- Assumes nothing.
 use native.Mathlib.Omega.{arith}
 use mathlib.Core.Path.{refl}
 use Rattle.jp2_cio.proofs.Rows.{row}
 use Rattle.jp2_picture.specs.Channels.{channels}
-use Rattle.jp2_check.proofs.channel_count.Statement.{statement}
-use Rattle.jp2_check.proofs.channel_count.Tie as tie
+use Rattle.jp2_comps.proofs.channel_count.Statement.{statement}
+use Rattle.jp2_comps.proofs.channel_count.Tie as tie
 
 returns : tie.Need-returns
 unfolding channels
