@@ -5,6 +5,7 @@ pub mod Checks
 pub mod Listed
 pub mod Mappings
 pub mod Pictures
+pub mod Destinations
 pub mod Agrees
 pub mod Accepts
 pub mod Seats

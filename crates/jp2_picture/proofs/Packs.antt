@@ -2,7 +2,7 @@
 -- Assumes nothing.
 use Prim.Native.Nat.{ℕ, zero, suc, _+_, _*_, _≤_, _<_}
 use mathlib.Core.Path.{_≡_, refl, ap, _∙_}
-use mathlib.Core.List.{List, [], _∷_, map}
+use mathlib.Core.List.{List, [], _∷_, map, _++_}
 use native.Mathlib.Nat.{le-refl}
 use native.Mathlib.Omega.{arith}
 use lib.IntN.{ℤ}
@@ -66,6 +66,11 @@ module _ (f : List ℕ) (m : Jp2) (i : Image) where
   packed-length zero held = refl
   packed-length (suc n) held = rw length-append (omega (arith, packed-length n (λ c h. held c (omega arith)), channel-length n (held n (omega arith))))
 
+  -- a sample of channel c stands in the list
+  packed-holds : (n : ℕ) → Held n → (c k : ℕ) → c < n → k < size i (componentOf f m c) → startOf f m i c + k < length (packed f m i n)
+  unfolding startOf
+  packed-holds n held c k h l = omega (arith, packed-length n held, start-more (suc c) n h)
+
   packed-channel : (n : ℕ) → Held n → (c k : ℕ) (d : ℤ) → c < n → k < size i (componentOf f m c) → getD (packed f m i n) (startOf f m i c + k) d ≡ getD (channelSamples f m i c) k d
   unfolding packed startOf
   packed-channel zero held c k d h l = absurd (omega arith)
@@ -74,12 +79,12 @@ module _ (f : List ℕ) (m : Jp2) (i : Image) where
       let long = packed-length n before in
       last-or n c h
       (λ e. rw (e, ← long) (getD-append-add (packed f m i n) (channelSamples f m i n) k d))
-      (λ b. List·getD-append (packed f m i n) (channelSamples f m i n) d (startOf f m i c + k) (omega (arith, start-more (suc c) n b)) ∙ packed-channel n before c k d b l)
+      (λ b. List·getD-append (packed f m i n) (channelSamples f m i n) d (startOf f m i c + k) (packed-holds n before c k b l) ∙ packed-channel n before c k d b l)
 
-  -- a sample of channel c is what the channel makes of its component's
+  -- a sample of channel c is what the channel makes of its component's, whatever stands behind the channels
   pub packed-at :
-      (n : ℕ) → Held n → (c k : ℕ) (d : ℤ) → c < n → (first i (componentOf f m c) ≡ none → ⊥) → k < height i (componentOf f m c) * width i (componentOf f m c) →
-      getD (packed f m i n) (startOf f m i c + k) d ≡ valueOf f m (i .count) c (getD (i .samples) (first i (componentOf f m c) + k) d)
-  packed-at n held c k d h some l =
+      (n : ℕ) → Held n → (behind : List ℤ) (c k : ℕ) (d : ℤ) → c < n → (first i (componentOf f m c) ≡ none → ⊥) → k < height i (componentOf f m c) * width i (componentOf f m c) →
+      getD (packed f m i n ++ behind) (startOf f m i c + k) d ≡ valueOf f m (i .count) c (getD (i .samples) (first i (componentOf f m c) + k) d)
+  packed-at n held behind c k d h some l =
       let b : k < size i (componentOf f m c) = omega (arith, size-some i (componentOf f m c) some) in
-      packed-channel n held c k d h b ∙ channel-at c k d (held c h) b
+      List·getD-append (packed f m i n) behind d (startOf f m i c + k) (packed-holds n held c k h b) ∙ packed-channel n held c k d h b ∙ channel-at c k d (held c h) b

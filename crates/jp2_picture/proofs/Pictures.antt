@@ -1,31 +1,32 @@
--- The picture rule: each channel fills its plane, and a colour's channel the plane of its colour.
+-- The picture that is made, in front of anything: each channel fills its plane, and a colour's channel the plane of its colour.
 -- Assumes nothing.
 use Prim.Native.Nat.{ℕ, _+_, _-_, _*_, _≤_, _<_}
-use mathlib.Core.Path.{_≡_, refl, sym, ap, ap₂, subst, _∙_}
+use mathlib.Core.Path.{_≡_, refl, sym, ap, ap₂, _∙_}
 use mathlib.Core.Bool.{false}
-use mathlib.Core.List.{List}
+use mathlib.Core.List.{List, _++_}
 use native.Mathlib.Nat.{add-assoc, mul-le-mul-right}
 use native.Mathlib.Omega.{arith}
 use lib.IntN.{ℤ, pos}
-use lib.ListN.{getD}
+use lib.ListN.{getD, List·getD-append}
 use Rattle.jp2_cio.specs.Table.{_=?_}
 use Rattle.jp2_cio.proofs.Rows.{Says, row}
 use Rattle.jp2_record.specs.declared.Jp2.{Jp2}
 use Rattle.jp2_order.specs.Definitions.{Def, Colour, definition, definitions}
 use Rattle.jp2_order.specs.Order.{arranged}
+use Rattle.jp2_order.specs.Flat.{flat}
 use Rattle.jp2_order.specs.Rules.{Paired, OrderPairs, ColourLands}
-use Rattle.jp2_picture.specs.Image.{Image, component, width, height, first, none, indexOf, sampleAt}
+use Rattle.jp2_picture.specs.Image.{Image, image, component, width, height, first, none, indexOf, sampleAt}
 use Rattle.jp2_picture.specs.Channels.{channels, componentOf}
 use Rattle.jp2_picture.specs.Samples.{valueOf, packed, startOf}
 use Rattle.jp2_picture.specs.Finish.{outsideLists, expanded, picture}
 use Rattle.jp2_picture.specs.Words.{Handed, Clear, Fills}
-use Rattle.jp2_picture.specs.PictureRule.{RightPlanes, PictureRule}
+use Rattle.jp2_picture.specs.PictureRule.{RightPlanes}
 use Rattle.jp2_picture.proofs.Indices.{decide}
-use Rattle.jp2_order.proofs.Flats.{flat-at}
+use Rattle.jp2_order.proofs.Flats.{flat-length, flat-at}
 use Rattle.jp2_picture.proofs.Packs.{start-more, packed-at}
-use Rattle.jp2_picture.proofs.Checks.{Checked, made, applied}
+use Rattle.jp2_picture.proofs.Checks.{Checked, made}
 use Rattle.jp2_picture.proofs.Listed.{occurs}
-use Rattle.jp2_picture.proofs.Mappings.{Kept, kept, component-within}
+use Rattle.jp2_picture.proofs.Mappings.{Kept, component-within}
 
 -- what a channel's record takes from its component
 module _ (f : List ℕ) (m : Jp2) (i : Image) (c : ℕ) where
@@ -49,8 +50,8 @@ module _ (f : List ℕ) (m : Jp2) (i : Image) (c : ℕ) where
 at-index : (samples : List ℤ) (start w y x : ℕ) → getD samples (indexOf start w y x) (pos 0) ≡ getD samples (start + (y * w + x)) (pos 0)
 at-index samples start w y x = ap (λ k. getD samples k (pos 0)) (add-assoc start (y * w) x)
 
--- the picture that is made of what is handed in
-module _ (h : Handed) (m : Jp2) (pairs : OrderPairs) where
+-- the picture that is made of what is handed in, with any numbers behind its records and any samples behind its own
+module _ (h : Handed) (m : Jp2) (numbers : List ℕ) (samples : List ℤ) (pairs : OrderPairs) where
   abbrev f : List ℕ
   f = h .file
 
@@ -59,6 +60,9 @@ module _ (h : Handed) (m : Jp2) (pairs : OrderPairs) where
 
   abbrev n : ℕ
   n = channels m (i .count)
+
+  abbrev planes : Image
+  planes = image (made h m .components ++ numbers) (made h m .count) (made h m .samples ++ samples)
 
   abbrev ds : List Def
   ds = definitions f (m .lists .cdef)
@@ -70,9 +74,13 @@ module _ (h : Handed) (m : Jp2) (pairs : OrderPairs) where
   to = paired .pairing .to
 
   -- number k of channel c's plane
-  plane-number : (c k : ℕ) → c < n → k < 12 → component (made h m) (to c) k ≡ expanded f m i c k
+  plane-number : (c k : ℕ) → c < n → k < 12 → component planes (to c) k ≡ expanded f m i c k
   unfolding picture
-  plane-number c k l b = flat-at (arranged n ds (expanded f m i) .records) n (to c) k (paired .pairing .to-below c l) (omega arith) ∙ paired .stands c k l b
+  plane-number c k l b =
+      let records = arranged n ds (expanded f m i) .records in
+      let below = paired .pairing .to-below c l in
+      List·getD-append (flat records (13 * n)) numbers 0 (13 * to c + k) (omega (arith, flat-length records (13 * n)))
+      ∙ flat-at records n (to c) k below (omega arith) ∙ paired .stands c k l b
 
   -- where every check passes
   module _ (checked : Checked h m) (inside : Says false (outsideLists i)) (k : Kept m) where
@@ -80,23 +88,23 @@ module _ (h : Handed) (m : Jp2) (pairs : OrderPairs) where
       abbrev r : ℕ
       r = componentOf f m c
 
-      wide : width (made h m) (to c) ≡ width i r
+      wide : width planes (to c) ≡ width i r
       wide = plane-number c 2 l (omega arith) ∙ expanded-width f m i c
 
-      high : height (made h m) (to c) ≡ height i r
+      high : height planes (to c) ≡ height i r
       high = plane-number c 3 l (omega arith) ∙ expanded-height f m i c
 
-      start : (first i r ≡ none → ⊥) → first (made h m) (to c) ≡ startOf f m i c
+      start : (first i r ≡ none → ⊥) → first planes (to c) ≡ startOf f m i c
       start some = plane-number c 11 l (omega arith) ∙ expanded-start f m i c some
 
-      sample : (first i r ≡ none → ⊥) → (y x : ℕ) → y < height i r → x < width i r → sampleAt (made h m) (to c) y x ≡ valueOf f m (i .count) c (sampleAt i r y x)
+      sample : (first i r ≡ none → ⊥) → (y x : ℕ) → y < height i r → x < width i r → sampleAt planes (to c) y x ≡ valueOf f m (i .count) c (sampleAt i r y x)
       unfolding picture
       sample some y x a b =
-          ap₂ (λ s w. getD (packed f m i n) (indexOf s w y x) (pos 0)) (start some) wide ∙ at-index (packed f m i n) (startOf f m i c) (width i r) y x
-          ∙ packed-at f m i n (λ c l. component-within h m k checked c l inside) c (y * width i r + x) (pos 0) l some (omega (arith, mul-le-mul-right (width i r) a))
+          ap₂ (λ s w. getD (packed f m i n ++ samples) (indexOf s w y x) (pos 0)) (start some) wide ∙ at-index (packed f m i n ++ samples) (startOf f m i c) (width i r) y x
+          ∙ packed-at f m i n (λ c l. component-within h m k checked c l inside) samples c (y * width i r + x) (pos 0) l some (omega (arith, mul-le-mul-right (width i r) a))
           ∙ ap (valueOf f m (i .count) c) (sym (at-index (i .samples) (first i r) (width i r) y x))
 
-      fills : Fills h m (made h m) c (to c)
+      fills : Fills h m planes c (to c)
       fills =
           record {
             wide = wide;
@@ -115,7 +123,7 @@ module _ (h : Handed) (m : Jp2) (pairs : OrderPairs) where
         let within : d .asoc ≤ n = checked .named j l .1 (λ z. omega arith) (λ z. omega arith) in
         sym (paired .seats (d .channel) below) ∙ lands n ds (expanded f m i) clear d (occurs f (m .lists .cdef) (m .lists .cdef .count) j l) colour below within
 
-    right : ColourLands → Clear h m → RightPlanes h m (made h m)
+    pub right : ColourLands → Clear h m → RightPlanes h m planes
     unfolding picture
     right lands clear =
         record {
@@ -124,8 +132,3 @@ module _ (h : Handed) (m : Jp2) (pairs : OrderPairs) where
           fills = fills;
           colours = colours lands clear;
         }
-
-pub picture-rule-from : OrderPairs → ColourLands → PictureRule
-picture-rule-from pairs lands h m planes accepted defined clear =
-    let y = applied h m planes (defined .applied) (accepted .finishing) in
-    subst (RightPlanes h m) (sym (y .is-made)) (right h m pairs (y .checked) (y .lists) (kept (h .file) m (y .file)) lands clear)

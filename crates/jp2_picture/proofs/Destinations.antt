@@ -1,0 +1,22 @@
+-- The picture rule of the destinations: it holds of them whatever stands in them behind the picture.
+-- Assumes nothing.
+use Prim.Native.Nat.{ℕ}
+use mathlib.Core.Path.{sym, subst}
+use mathlib.Core.List.{List, _++_}
+use lib.IntN.{ℤ}
+use Rattle.jp2_record.specs.declared.Jp2.{Jp2}
+use Rattle.jp2_order.proofs.Rules.{order-pairs, colour-lands}
+use Rattle.jp2_picture.specs.Image.{Image, image}
+use Rattle.jp2_picture.specs.Words.{Handed, Accepted, Defined, Clear}
+use Rattle.jp2_picture.specs.PictureRule.{RightPlanes}
+use Rattle.jp2_picture.proofs.Checks.{applied}
+use Rattle.jp2_picture.proofs.Mappings.{kept}
+use Rattle.jp2_picture.proofs.Pictures.{right}
+
+pub right-in-place :
+    (h : Handed) (m : Jp2) (planes : Image) → Accepted h m planes → Defined h m → Clear h m →
+    (d : List ℕ) (e : List ℤ) → RightPlanes h m (image (planes .components ++ d) (planes .count) (planes .samples ++ e))
+right-in-place h m planes accepted defined clear d e =
+    let y = applied h m planes (defined .applied) (accepted .finishing) in
+    subst (λ made. RightPlanes h m (image (made .components ++ d) (made .count) (made .samples ++ e))) (sym (y .is-made))
+    (right h m d e order-pairs (y .checked) (y .lists) (kept (h .file) m (y .file)) colour-lands clear)
