@@ -1,33 +1,19 @@
 -- What a mark and an exchange of two records do to lists that say what an arrangement says.
 -- Assumes nothing.
-use Prim.Native.Nat.{ℕ, _+_, _-_, _*_, _≤_, _<_}
-use mathlib.Core.Path.{_≡_, refl, ap, sym, _∙_, subst}
+use Prim.Native.Nat.{ℕ, _+_, _*_, _≤_, _<_}
+use mathlib.Core.Path.{_≡_, refl, ap, sym, _∙_}
 use mathlib.Core.List.{List}
 use native.Mathlib.Omega.{arith}
 use native.Mathlib.Decide.{ℕ-discrete}
 use lib.ListN.{length, getD, set, length-set}
 use lib.Seq.{getD-set-same, getD-set-other}
-use Rattle.jp2_cio.specs.Table.{_=?_, _<?_, _or_, _and_, Rows, otherwise, _⇒_∣_, table}
-use Rattle.jp2_cio.proofs.Rows.{Reaches, entry, row, each}
-use Rattle.jp2_order.specs.Definitions.{Def}
-use Rattle.jp2_order.specs.Order.{Arranged, exchange, swapped, marked, define}
+use Rattle.jp2_cio.specs.Table.{_=?_, _and_, otherwise, _⇒_∣_, table}
+use Rattle.jp2_cio.proofs.Rows.{each}
+use Rattle.jp2_order.specs.Order.{Arranged, exchange, swapped, marked}
 use Rattle.jp2_cdef.specs.Flat.{numberOf}
 use Rattle.jp2_cdef.specs.Steps.{Exchanged, Room, Agree}
 use Rattle.jp2_order.proofs.Exchange
 use Rattle.jp2_cdef.proofs.Swapping.{getD-swap}
-
--- `define`, by the first of its rows whose test holds
-abbrev pub rows : ℕ → Def → ℕ → Arranged → Rows Arranged
-rows n d p a =
-    n <? p + 1 ⇒ a
-    ∣ d .asoc =? 0 or d .asoc =? 65535 ⇒ marked p (d .typ) a
-    ∣ n <? d .asoc ⇒ a
-    ∣ d .typ =? 0 ⇒ marked p 0 (swapped p (d .asoc - 1) a)
-    ∣ otherwise (marked p (d .typ) a)
-
-pub by-row : (i n : ℕ) (d : Def) (p : ℕ) (a : Arranged) (P : Arranged → Type 0) → a .seat (d .channel) ≡ p → Reaches i (rows n d p a) → P (entry i (rows n d p a)) → P (define n d a)
-unfolding define
-by-row i n d p a P e r h = subst (λ x. P (table (rows n d x a))) (sym e) (subst P (row i (rows n d p a) r refl) h)
 
 -- at the start every channel stands at its own number
 pub room-start : (n : ℕ) (recs seat held : List ℕ) → n ≤ 16384 → 13 * n ≤ length recs → n ≤ length seat → n ≤ length held → ((c : ℕ) → c < n → getD seat c 0 ≡ c) → ((p : ℕ) → p < n → getD held p 0 ≡ p) → Room n recs seat held
@@ -77,9 +63,6 @@ module _ (n : ℕ) (recs seat held : List ℕ) (w : Room n recs seat held) (c p 
   hp : p < n
   hp = rw sc at (w .seat-below c hc)
 
-  below : (x : ℕ) → x < n → exchange p q x < n
-  below x h = Exchange.cases (λ y. y < n) p q x (λ e. hq) (λ e. hp) (λ e f. h)
-
   seats-swap : (x : ℕ) → x < n → getD (set (set seat c q) (getD held q 0) p) x 0 ≡ exchange p q (getD seat x 0)
   seats-swap x hx = go (ℕ-discrete x (getD held q 0)) (ℕ-discrete x c)
     where
@@ -108,10 +91,10 @@ module _ (n : ℕ) (recs seat held : List ℕ) (w : Room n recs seat held) (c p 
     recs-room = w .recs-room;
     seat-room = simp length-set (w .seat-room);
     held-room = simp length-set (w .held-room);
-    seat-below = λ x h. rw (seats-swap x h) (below _ (w .seat-below x h));
-    held-below = λ y h. rw (holds-swap y) (w .held-below _ (below y h));
+    seat-below = λ x h. rw (seats-swap x h) (Exchange.below n p q hp hq _ (w .seat-below x h));
+    held-below = λ y h. rw (holds-swap y) (w .held-below _ (Exchange.below n p q hp hq y h));
     there = λ x h. rw (seats-swap x h) (holds-swap _ ∙ ap (λ y. getD held y 0) (Exchange.back p q _) ∙ w .there x h);
-    here = λ y h. rw (holds-swap y) (seats-swap _ (w .held-below _ (below y h)) ∙ ap (exchange p q) (w .here _ (below y h)) ∙ Exchange.back p q y);
+    here = λ y h. rw (holds-swap y) (seats-swap _ (w .held-below _ (Exchange.below n p q hp hq y h)) ∙ ap (exchange p q) (w .here _ (Exchange.below n p q hp hq y h)) ∙ Exchange.back p q y);
   }
 
   pub agree-swap : (recs′ : List ℕ) (a : Arranged) → Exchanged p q recs recs′ → Agree n recs seat a → Agree n recs′ (set (set seat c q) (getD held q 0) p) (swapped p q a)

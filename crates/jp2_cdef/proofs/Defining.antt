@@ -7,7 +7,8 @@ use native.Mathlib.Omega.{arith}
 use lib.ListN.{length, getD, set, length-set}
 use Rattle.jp2_order.specs.Definitions.{def}
 use Rattle.jp2_cdef.specs.Steps.{Exchanged, Room, Agree, Defined}
-use Rattle.jp2_cdef.proofs.Agreement.{by-row, agree-mark, agree-swap, room-recs, room-swap}
+use Rattle.jp2_order.proofs.Steps.{by-row}
+use Rattle.jp2_cdef.proofs.Agreement.{agree-mark, agree-swap, room-recs, room-swap}
 
 pub no-record : (n : ℕ) (recs seat held : List ℕ) (c typ asoc : ℕ) → Room n recs seat held → n ≤ c → Defined n (def c typ asoc) recs seat recs seat held
 no-record n recs seat held c typ asoc w h =

@@ -20,7 +20,7 @@ use Rattle.jp2_order.proofs.Flats.{flat-length, flat-number}
 use Rattle.jp2_cdef.specs.Flat.{numberOf, reordered}
 use Rattle.jp2_cdef.specs.Steps.{Agree}
 use Rattle.jp2_order.proofs.Exchange
-use Rattle.jp2_cdef.proofs.Agreement.{rows}
+use Rattle.jp2_order.proofs.Steps.{rows}
 
 -- a position past the records keeps its numbers
 module _ (n r k : ℕ) (h : n ≤ r) where
@@ -55,9 +55,9 @@ unfolding definitionsTo
 agree-more f l n i records c t s recs seat ec et es g =
     rw (add-one, run-last n (definitionsTo f l i) (definition f l i)) (rw (ec, et, es) at g)
 
-pub whole : (f : List ℕ) (cdef : Span) (n : ℕ) (l recs seat : List ℕ) → length recs ≡ length l → 13 * n ≤ length l → Agree n recs seat (arranged n (definitions f cdef) (numberOf l)) → recs ≡ reordered f cdef n l
+pub whole : (f : List ℕ) (cdef : Span) (n : ℕ) (l recs : List ℕ) → length recs ≡ length l → 13 * n ≤ length l → ((r k : ℕ) → k < 13 → arranged n (definitions f cdef) (numberOf l) .records r k ≡ numberOf recs r k) → recs ≡ reordered f cdef n l
 unfolding reordered
-whole f cdef n l recs seat e room g =
+whole f cdef n l recs e room says =
     ext-getD 0 recs (flat records (13 * n) ++ drop (13 * n) l)
     (simp (length-append, flat-length records (13 * n), length-drop) (omega arith))
     (λ i h. either (ltb i (13 * n)) (λ b. low i (ltb-true i (13 * n) b)) (λ b. high i (ltb-false i (13 * n) b)))
@@ -69,7 +69,7 @@ whole f cdef n l recs seat e room g =
     parts i = omega arith
 
     here : (i : ℕ) → records (i / 13) (i % 13) ≡ getD recs i 0
-    here i = g .says (i / 13) (i % 13) (omega arith) ∙ ap (λ x. getD recs x 0) (parts i)
+    here i = says (i / 13) (i % 13) (omega arith) ∙ ap (λ x. getD recs x 0) (parts i)
 
     low : (i : ℕ) → i < 13 * n → getD recs i 0 ≡ getD (flat records (13 * n) ++ drop (13 * n) l) i 0
     low i h = sym (List·getD-append (flat records (13 * n)) _ 0 i (omega (arith, flat-length records (13 * n))) ∙ flat-number records (13 * n) i h ∙ here i)

@@ -57,6 +57,10 @@ commute p t q u x a b = go (ℕ-discrete q t) (ℕ-discrete p u)
     go (yes c) (yes d) = rw (c, ← d, second p t t refl, second t p p refl, none p, none t) (flip p t x)
 
 -- positions below n stay below n
+pub below : (n p q : ℕ) → p < n → q < n → (x : ℕ) → x < n → exchange p q x < n
+below n p q hp hq x h = cases (λ y. y < n) p q x (λ e. hq) (λ e. hp) (λ a b. h)
+
+-- and no others come there
 pub within : (n p q x : ℕ) → p < n → q < n → ltb (exchange p q x) n ≡ ltb x n
 within n p q x hp hq =
     cases (λ y. ltb y n ≡ ltb x n) p q x

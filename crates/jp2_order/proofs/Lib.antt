@@ -4,3 +4,4 @@ pub mod Counting
 pub mod Runs
 pub mod Rules
 pub mod Flats
+pub mod Alike

@@ -1,15 +1,28 @@
 -- What one definition does to a position, and that `define` does so to every channel and, marks aside, to every record.
 -- Assumes nothing.
 use Prim.Native.Nat.{ℕ, _-_, _+_, _<_}
-use mathlib.Core.Path.{_≡_, refl, ap, sym, _∙_}
+use mathlib.Core.Path.{_≡_, refl, ap, sym, _∙_, subst}
 use mathlib.Core.Bool.{Bool, true, false}
 use native.Mathlib.Omega.{arith}
 use lib.Dec.{ltb}
-use Rattle.jp2_cio.specs.Table.{Test, _=?_, _≠?_, _<?_, _and_, otherwise, _⇒_∣_, holds, pick}
-use Rattle.jp2_cio.proofs.Rows.{Says, either, said, shown, row, each}
+use Rattle.jp2_cio.specs.Table.{Test, _=?_, _≠?_, _<?_, _or_, _and_, Rows, otherwise, _⇒_∣_, holds, pick, table}
+use Rattle.jp2_cio.proofs.Rows.{Says, either, said, shown, Reaches, entry, row, each}
 use Rattle.jp2_order.specs.Definitions.{Def, Colour}
 use Rattle.jp2_order.specs.Order.{Arranged, exchange, swapped, marked, define}
 use Rattle.jp2_order.proofs.Exchange
+
+-- `define`, by the first of its rows whose test holds
+abbrev pub rows : ℕ → Def → ℕ → Arranged → Rows Arranged
+rows n d p a =
+    n <? p + 1 ⇒ a
+    ∣ d .asoc =? 0 or d .asoc =? 65535 ⇒ marked p (d .typ) a
+    ∣ n <? d .asoc ⇒ a
+    ∣ d .typ =? 0 ⇒ marked p 0 (swapped p (d .asoc - 1) a)
+    ∣ otherwise (marked p (d .typ) a)
+
+pub by-row : (i n : ℕ) (d : Def) (p : ℕ) (a : Arranged) (P : Arranged → Type 0) → a .seat (d .channel) ≡ p → Reaches i (rows n d p a) → P (entry i (rows n d p a)) → P (define n d a)
+unfolding define
+by-row i n d p a P e r h = subst (λ x. P (table (rows n d x a))) (sym e) (subst P (row i (rows n d p a) r refl) h)
 
 -- d and e define two channels, and give no colour number to both
 abbrev pub Apart : Def → Def → Type 0
@@ -86,7 +99,7 @@ pub follows : (n : ℕ) (d : Def) (a : Arranged) → Follows n d a (define n d a
 unfolding define
 follows n d a =
     let p = a .seat (d .channel) in
-    each (Follows n d a) _ (
+    each (Follows n d a) (rows n d p a) (
       (λ h. kept n d a (λ i _ _ _. omega arith)),
       λ i. (
         (λ h. aside n d a a p (d .typ) (kept n d a (λ _ _ j k. absurd (k (h (omega arith)))))),

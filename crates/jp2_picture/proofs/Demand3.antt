@@ -16,4 +16,4 @@ picture-rule h m planes accepted defined clear =
     (right-in-place h m planes accepted defined clear [] [])
 
 pub order-freedom : OrderFreedom
-order-freedom = order-freedom-from order-pairs order-free
+order-freedom = order-freedom-from order-free

@@ -8,7 +8,6 @@ pub mod Pictures
 pub mod Destinations
 pub mod Agrees
 pub mod Accepts
-pub mod Seats
 pub mod Orders
 pub mod Distinct
 pub mod Mets

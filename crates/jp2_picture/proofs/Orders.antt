@@ -13,22 +13,22 @@ use Rattle.jp2_reading.proofs.Definitions.{definitions-free}
 use Rattle.jp2_reading.proofs.Frees.{palette-free, mappings-free}
 use Rattle.jp2_order.specs.Definitions.{definitions}
 use Rattle.jp2_order.specs.Order.{arranged}
-use Rattle.jp2_order.specs.Rules.{Once, OrderPairs, OrderFree}
+use Rattle.jp2_order.specs.Rules.{Once, OrderFree}
 use Rattle.jp2_picture.specs.Image.{Image}
 use Rattle.jp2_picture.specs.Channels.{channels}
 use Rattle.jp2_picture.specs.Finish.{expanded, picture}
 use Rattle.jp2_picture.specs.Words.{Handed, Accepted, IsAccepted, Defined, Clear}
 use Rattle.jp2_picture.specs.OrderFreedom.{withFile, AlikeButOrder, SamePlanes, OrderFreedom}
 use Rattle.jp2_order.proofs.Flats.{flat-at}
+use Rattle.jp2_order.proofs.Alike.{arranged-alike}
 use Rattle.jp2_picture.proofs.Checks.{passed, passes, applied}
 use Rattle.jp2_picture.proofs.Mappings.{Kept, kept, channels-few}
 use Rattle.jp2_picture.proofs.Agrees.{Agree, packed-same, expanded-same}
 use Rattle.jp2_picture.proofs.Accepts.{passed-same}
-use Rattle.jp2_picture.proofs.Seats.{arranged-same}
 
-planes-same : {f g : List ℕ} {m : Jp2} → Agree f g m → Kept m → (i : Image) → channels m (i .count) ≤ 16384 → OrderPairs → OrderFree → Once (definitions f (m .lists .cdef)) → SamePlanes (picture f m i) (picture g m i)
+planes-same : {f g : List ℕ} {m : Jp2} → Agree f g m → Kept m → (i : Image) → channels m (i .count) ≤ 16384 → OrderFree → Once (definitions f (m .lists .cdef)) → SamePlanes (picture f m i) (picture g m i)
 unfolding picture
-planes-same {f} {g} {m} a k i few pairs free once =
+planes-same {f} {g} {m} a k i few free once =
     let n = channels m (i .count) in
     let ds = definitions f (m .lists .cdef) in
     let es = definitions g (m .lists .cdef) in
@@ -36,7 +36,7 @@ planes-same {f} {g} {m} a k i few pairs free once =
       count = refl;
       records = λ p j b l.
           flat-at (arranged n es (expanded g m i) .records) n p j b (omega arith)
-          ∙ arranged-same pairs n es (expanded g m i) (expanded f m i) (expanded-same a k i) p j b l
+          ∙ arranged-alike n es (expanded g m i) (expanded f m i) (λ c j h _. expanded-same a k i c h j) p j b (omega arith)
           ∙ sym (free n ds es (expanded f m i) (omega arith) once (a .reordered) p j l)
           ∙ sym (flat-at (arranged n ds (expanded f m i) .records) n p j b (omega arith));
       samples = packed-same a k i n (le-refl n);
@@ -67,17 +67,17 @@ module _ (h : Handed) (g : List ℕ) (m : Jp2) (o : AlikeButOrder h g m) where
       let z = subst (λ k. Accepted h k planes) (only (o .reads) (y .reading)) y in
       (m, _, record { reading = reads; finishing = passes (withFile g h) m (passed-same h g m agree (passed h m planes (z .finishing) .0)) })
 
-  same : OrderPairs → OrderFree → (k : Jp2) (planes others : Image) → Accepted h m planes → Accepted (withFile g h) k others → Defined h m → Clear h m → SamePlanes planes others
-  same pairs free k planes others y z defined clear =
+  same : OrderFree → (k : Jp2) (planes others : Image) → Accepted h m planes → Accepted (withFile g h) k others → Defined h m → Clear h m → SamePlanes planes others
+  same free k planes others y z defined clear =
       let p = applied h m planes (defined .applied) (y .finishing) in
       let other = subst (λ k. Accepted (withFile g h) k others) (only reads (z .reading)) z in
       let q = applied (withFile g h) m others (defined .applied) (other .finishing) in
-      subst₂ SamePlanes (sym (p .is-made)) (sym (q .is-made)) (planes-same agree (kept (h .file) m (p .file)) (h .image) (channels-few (h .file) m (h .image) (p .lists) (p .file)) pairs free clear)
+      subst₂ SamePlanes (sym (p .is-made)) (sym (q .is-made)) (planes-same agree (kept (h .file) m (p .file)) (h .image) (channels-few (h .file) m (h .image) (p .lists) (p .file)) free clear)
 
-pub order-freedom-from : OrderPairs → OrderFree → OrderFreedom
-order-freedom-from pairs free =
+pub order-freedom-from : OrderFree → OrderFreedom
+order-freedom-from free =
     record {
       both = both;
       neither = λ h g m o. both (withFile g h) (h .file) m (either-first h g m o);
-      same = λ h g m k planes others o. same h g m o pairs free k planes others;
+      same = λ h g m k planes others o. same h g m o free k planes others;
     }

@@ -114,8 +114,8 @@ returns c =
     let b = c .before .before .before .before .before .before .before .before .before .before .before in
     let l = c .before .before .loop in
     let e : l .i ≡ b .args .cdef .count = omega arith in
-    whole (b .args .f .now) (b .args .cdef) (b .args .n) (b .args .recs .now) (l .recs) (l .seat) (l .inv .1) (omega arith)
-    (subst (λ i. Agree (b .args .n) (l .recs) (l .seat) (arranged (b .args .n) (definitionsTo (b .args .f .now) (b .args .cdef) i) (numberOf (b .args .recs .now)))) e (l .inv .5))
+    whole (b .args .f .now) (b .args .cdef) (b .args .n) (b .args .recs .now) (l .recs) (l .inv .1) (omega arith)
+    (subst (λ i. Agree (b .args .n) (l .recs) (l .seat) (arranged (b .args .n) (definitionsTo (b .args .f .now) (b .args .cdef) i) (numberOf (b .args .recs .now)))) e (l .inv .5) .says)
 
 pub reorder-spec : {M : Type 1} → statement M
 reorder-spec =
