@@ -1,0 +1,86 @@
+-- For private functions only: channels over one list and a number at a time, what has been tested when planes are packed, and the picture before it is put in order.
+use Prim.Native.Nat.{ℕ, _+_, _*_, _≤_, _<_}
+use mathlib.Core.Path.{_≡_}
+use mathlib.Core.Bool.{Bool, false}
+use mathlib.Core.List.{List, map}
+use lib.IntN.{ℤ}
+use lib.ListN.{length}
+use Rattle.jp2_cio.specs.Table.{_=?_, _≠?_, _<?_, flag, _or_, _and_, otherwise, _⇒_∣_, table}
+use Rattle.jp2_cio.proofs.Rows.{Says}
+use Rattle.jp2_record.specs.declared.Span.{Span}
+use Rattle.jp2_record.specs.declared.Palette.{Palette}
+use Rattle.jp2_record.specs.declared.Jp2.{Jp2}
+use Rattle.jp2_palette.specs.Pclr.{depth, sign, B}
+use Rattle.jp2_palette.specs.Cmap.{MTYP}
+use Rattle.jp2_order.specs.Flat.{flat}
+use Rattle.jp2_picture.specs.Image.{Image, image, component, first, none, size}
+use Rattle.jp2_picture.specs.Channels.{lowest, channels}
+use Rattle.jp2_picture.specs.Samples.{packed, startOf}
+use Rattle.jp2_picture.specs.Check.{mismapped, dataless}
+use Rattle.jp2_picture.specs.Finish.{Finishing, finished, declined, outsideLists, outsideFile, expanded, picture}
+use Rattle.jp2_plane.specs.Plane.{plane, noColumn, valueFor}
+use Rattle.jp2_comps.specs.Alone.{listed}
+use Rattle.jp2_finish.specs.declared.Finished.{Finished}
+use Rattle.jp2_finish.specs.Answers.{answered, recordsAfter, samplesAfter}
+
+-- `typeOf` over the mappings, where the checks have told whether these are corrected
+unfoldable pub typeAt : List ℕ → Span → Bool → ℕ → ℕ
+typeAt f l corrected c = table (flag corrected ⇒ 1 ∣ l .count ≠? 0 ⇒ MTYP f l c ∣ otherwise 0)
+
+-- `expanded` for a channel c whose component is r and whose samples start at a place; there are so many mappings
+unfoldable pub expandedAt : List ℕ → Palette → ℕ → List ℕ → ℕ → ℕ → ℕ → ℕ → ℕ
+expandedAt f p mappings comps c r start k =
+    table
+    (mappings ≠? 0 and k =? 6 ⇒ depth (B f p c)
+    ∣ mappings ≠? 0 and k =? 8 ⇒ sign (B f p c)
+    ∣ first (listed comps) r ≠? none and k =? 11 ⇒ start
+    ∣ otherwise (component (listed comps) r k))
+
+-- the thirteen numbers of a channel's record
+abbrev pub recordAt : List ℕ → Palette → ℕ → List ℕ → ℕ → ℕ → ℕ → List ℕ
+recordAt f p mappings comps c r start = flat (λ _ k. expandedAt f p mappings comps c r start k) 13
+
+-- what a channel c of a type makes of the samples of its component r
+abbrev pub samplesAt : List ℕ → Palette → List ℕ → List ℤ → ℕ → ℕ → ℕ → List ℤ
+samplesAt f p comps samples c r typ = map (valueFor f p c typ) (plane samples (first (listed comps) r) (size (listed comps) r))
+
+-- a channel can be packed at a place: its column is there where it has one, its component's samples are, and there is room
+pub record Packable (f : List ℕ) (p : Palette) (comps : List ℕ) (samples : List ℤ) (c r typ room at : ℕ) : Type 0 where
+  pub column : typ ≡ 1 → Says false (noColumn f p c)
+  pub inside : (first (listed comps) r ≡ none → ⊥) → first (listed comps) r + size (listed comps) r ≤ length samples
+  pub fits : at + size (listed comps) r ≤ room
+
+-- 29 and 27 have been tested
+pub record Tested (f : List ℕ) (m : Jp2) (i : Image) : Type 0 where
+  pub lists : Says false (outsideLists i)
+  pub file : Says false (outsideFile f m)
+  pub mapping : (c : ℕ) → c < m .lists .cmap .count → Says false (mismapped f m (i .count) c)
+
+-- and there is room for the n channels
+pub record Roomy (f : List ℕ) (m : Jp2) (i : Image) (n records samples : ℕ) : Type 0 where
+  pub all : n ≡ channels m (i .count)
+  pub record-room : 13 * n ≤ records
+  pub most : startOf f m i n ≤ 4294967294
+  pub sample-room : startOf f m i n ≤ samples
+
+-- the picture before its planes are put in order
+unfoldable pub unordered : List ℕ → Jp2 → Image → Image
+unordered f m i = let n = channels m (i .count) in image (flat (expanded f m i) (13 * n)) n (packed f m i n)
+
+-- the rows of `coloured` from 28 on
+unfoldable pub room : List ℕ → Jp2 → Image → ℕ → ℕ → Finishing
+room f m i records samples =
+    let n = channels m (i .count) in
+    let blank = lowest (dataless f m i) (m .lists .cmap .count) in
+    let needed = startOf f m i n in
+    table
+    (blank <? m .lists .cmap .count ⇒ declined 28 blank
+    ∣ records <? 13 * n ⇒ declined 30 (13 * n)
+    ∣ 4294967294 <? needed or samples <? needed ⇒ declined 30 needed
+    ∣ otherwise (finished (picture f m i)))
+
+-- a finishing is answered, and has left in the destinations what it is to leave
+pub record Done (x : Finishing) (r : Finished) (records records′ : List ℕ) (planes planes′ : List ℤ) : Type 0 where
+  pub answer : r ≡ answered x
+  pub numbers : records′ ≡ recordsAfter x records
+  pub samples : planes′ ≡ samplesAfter x planes
