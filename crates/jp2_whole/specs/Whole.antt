@@ -1,0 +1,34 @@
+-- Reading a file and finishing its picture in one step, and what demand 3 says of the destinations afterwards.
+use Prim.Native.Nat.{ℕ}
+use mathlib.Core.Path.{_≡_}
+use mathlib.Core.List.{List}
+use lib.IntN.{ℤ}
+use lib.ListN.{length}
+use Rattle.jp2_record.specs.declared.Jp2.{Jp2}
+use Rattle.jp2_record.specs.Answer.{Result, accepted, refused}
+use Rattle.jp2_file.specs.File.{read}
+use Rattle.jp2_reading.specs.Alike.{given}
+use Rattle.jp2_picture.specs.Image.{image}
+use Rattle.jp2_picture.specs.Finish.{Finishing, declined, finish}
+use Rattle.jp2_picture.specs.Words.{Handed, Defined, Clear}
+use Rattle.jp2_picture.specs.PictureRule.{RightPlanes}
+use Rattle.jp2_finish.specs.declared.Finished.{Finished}
+use Rattle.jp2_finish.specs.declared.Finished.the-variants.{Planes}
+
+-- all that is handed in; of the destinations their lengths
+abbrev pub handed : List ℕ → ℕ → List ℕ → ℕ → List ℤ → List ℕ → List ℤ → Handed
+handed file ignore comps count samples records planes = record { file = file; image = image comps count samples; ignore = ignore; records = length records; samples = length planes }
+
+-- a refusal of reading, or what is made of the record
+abbrev pub thenFinish : Result → (Jp2 → Finishing) → Finishing
+thenFinish (accepted m) next = next m
+thenFinish (refused number place) next = declined number place
+
+-- the picture is finished with the record from reading its file
+unfoldable pub pictured : Handed → Finishing
+pictured h = thenFinish (given (read (h .file))) (λ m. finish (h .file) m (h .ignore) (h .image) (h .records) (h .samples))
+
+-- demand 3, of the destinations themselves: where so many planes are answered, with definitions that are present, applied and clash nowhere, each channel fills its plane and each colour has its own
+abbrev pub PictureRight : Handed → Finished → List ℕ → List ℤ → Type 0
+PictureRight h answer records planes =
+    (m : Jp2) (n : ℕ) → given (read (h .file)) ≡ accepted m → answer ≡ Planes n → Defined h m → Clear h m → RightPlanes h m (image records n planes)
