@@ -1,11 +1,17 @@
 // What callers from C and Rust reach: plain lists and numbers.
 ghost use mathlib.Core.Path.{_≡_};
-ghost use lib.ListN.{getD};
+ghost use Prim.Native.Nat.{_≤_};
+ghost use mathlib.Core.List.{_∷_};
+ghost use lib.ListN.{length, getD, drop};
 ghost use Rattle.jp2_record.specs.Record.{blank};
 ghost use Rattle.jp2_file.specs.File.{read, reading};
+ghost use Rattle.jp2_finish.specs.Answers.{answered, fronted, recordsAfter, samplesAfter};
+ghost use Rattle.jp2_whole.specs.Whole.{handed, pictured};
+ghost use Rattle.jp2_export.specs.Picture.{told, room};
 ghost use Rattle.jp2_export.specs.Numbers.{kind, value, place, numbers, given, filled};
 use jp2_file::FileAnswer;
 use jp2_file::Reading;
+use jp2_finish::Finished;
 
 // 0 for the codestream, 1 for "ended", 2 for a refusal.
 fn answer_kind(a: FileAnswer) -> u32
@@ -117,4 +123,51 @@ pub extern "C" fn cuzhantir_read(file: &[u8], out: &mut [u64]) -> u32
         i += 1;
     }
     44
+}
+
+// Puts four numbers at the front of a list.
+fn put_four(d: &mut [u64], kind: u64, number: u64, place: u64, planes: u64)
+    requires { ⌜ 4 ≤ length (now d) ⌝ }
+    ensures { λ _. ⌜ now (d .exit) ≡ kind ∷ number ∷ place ∷ planes ∷ drop 4 (now (d .entry)) ⌝ }
+{
+    d[0] = kind;
+    d[1] = number;
+    d[2] = place;
+    d[3] = planes;
+}
+
+// Gives the numbers of an answer of finishing to a list.
+fn tell(r: Finished, d: &mut [u64])
+    requires { ⌜ 4 ≤ length (now d) ⌝ }
+    ensures { λ _. ⌜ now (d .exit) ≡ fronted (told r) (now (d .entry)) ⌝ }
+{
+    match r {
+        Finished::Planes(n) => put_four(d, 0, 0, 0, n as u64),
+        Finished::Refused(number, place) => put_four(d, 1, number as u64, place, 0),
+    }
+}
+
+// Reads a file, finishes its picture and gives the 4 numbers of the answer: how many were given, 0 where answer is shorter; nothing is then done.
+#[no_mangle]
+pub extern "C" fn cuzhantir_picture(
+    file: &[u8],
+    ignore: u32,
+    comps: &[u32],
+    count: u32,
+    samples: &[i32],
+    records: &mut [u32],
+    planes: &mut [i32],
+    answer: &mut [u64],
+) -> u32
+    ensures { λ r. ⌜ r ≡ room (now (answer .entry)) 0 4 ⌝ }
+    ensures { λ _. ⌜ now (answer .exit) ≡ room (now (answer .entry)) (now (answer .entry)) (fronted (told (answered (pictured (handed (now (file .entry)) ignore (now (comps .entry)) count (now (samples .entry)) (now (records .entry)) (now (planes .entry)))))) (now (answer .entry))) ⌝ }
+    ensures { λ _. ⌜ now (records .exit) ≡ room (now (answer .entry)) (now (records .entry)) (recordsAfter (pictured (handed (now (file .entry)) ignore (now (comps .entry)) count (now (samples .entry)) (now (records .entry)) (now (planes .entry)))) (now (records .entry))) ⌝ }
+    ensures { λ _. ⌜ now (planes .exit) ≡ room (now (answer .entry)) (now (planes .entry)) (samplesAfter (pictured (handed (now (file .entry)) ignore (now (comps .entry)) count (now (samples .entry)) (now (records .entry)) (now (planes .entry)))) (now (planes .entry))) ⌝ }
+{
+    if answer.len() < 4 {
+        return 0;
+    }
+    let r = jp2_whole::read_picture(file, ignore, comps, count, samples, records, planes);
+    tell(r, answer);
+    4
 }
