@@ -1,0 +1,9 @@
+pub mod Fields
+pub mod Splitting
+pub mod Steps
+pub mod Bounds
+pub mod Children
+pub mod Header
+pub mod Places
+pub mod Whole
+pub mod Back

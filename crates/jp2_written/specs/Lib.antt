@@ -1,0 +1,14 @@
+pub mod Request
+pub mod Setup
+pub mod Box
+pub mod Signature
+pub mod FileType
+pub mod Ihdr
+pub mod Bpcc
+pub mod Colr
+pub mod Cdef
+pub mod Jp2h
+pub mod Stream
+pub mod Writing
+pub mod RoundTrip
+pub mod Cases
