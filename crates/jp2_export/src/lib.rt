@@ -7,11 +7,16 @@ ghost use Rattle.jp2_record.specs.Record.{blank};
 ghost use Rattle.jp2_file.specs.File.{read, reading};
 ghost use Rattle.jp2_finish.specs.Answers.{answered, fronted, recordsAfter, samplesAfter};
 ghost use Rattle.jp2_whole.specs.Whole.{handed, pictured};
+ghost use Rattle.jp2_written.specs.Writing.{write, destination};
+ghost use Rattle.jp2_write.specs.Answers.{asked};
+ghost use Rattle.jp2_write.specs.Answers as written;
 ghost use Rattle.jp2_export.specs.Picture.{told, room};
+ghost use Rattle.jp2_export.specs.Writing.{toldWritten};
 ghost use Rattle.jp2_export.specs.Numbers.{kind, value, place, numbers, given, filled};
 use jp2_file::FileAnswer;
 use jp2_file::Reading;
 use jp2_finish::Finished;
+use jp2_write::Written;
 
 // 0 for the codestream, 1 for "ended", 2 for a refusal.
 fn answer_kind(a: FileAnswer) -> u32
@@ -169,5 +174,44 @@ pub extern "C" fn cuzhantir_picture(
     }
     let r = jp2_whole::read_picture(file, ignore, comps, count, samples, records, planes);
     tell(r, answer);
+    4
+}
+
+// Gives the numbers of an answer of writing to a list.
+fn tell_written(r: Written, d: &mut [u64])
+    requires { ⌜ 4 ≤ length (now d) ⌝ }
+    ensures { λ _. ⌜ now (d .exit) ≡ fronted (toldWritten r) (now (d .entry)) ⌝ }
+{
+    match r {
+        Written::Bytes(n) => put_four(d, 0, 0, 0, n as u64),
+        Written::Refused(number, place) => put_four(d, 1, number as u64, place, 0),
+    }
+}
+
+// Writes all boxes before a codestream of the given length and the header of its box, and gives the 4 numbers of the answer: how many were given, 0 where answer is shorter; nothing is
+// then done.
+#[no_mangle]
+pub extern "C" fn cuzhantir_write(
+    comps: &[u32],
+    count: u32,
+    x0: u32,
+    y0: u32,
+    x1: u32,
+    y1: u32,
+    space: u32,
+    profile: &[u8],
+    codestream: u64,
+    d: &mut [u8],
+    answer: &mut [u64],
+) -> u32
+    ensures { λ r. ⌜ r ≡ room (now (answer .entry)) 0 4 ⌝ }
+    ensures { λ _. ⌜ now (answer .exit) ≡ room (now (answer .entry)) (now (answer .entry)) (fronted (toldWritten (written.answered (write (asked (now (comps .entry)) count x0 y0 x1 y1 space (now (profile .entry)) codestream (length (now (d .entry))))))) (now (answer .entry))) ⌝ }
+    ensures { λ _. ⌜ now (d .exit) ≡ room (now (answer .entry)) (now (d .entry)) (destination (now (d .entry)) (write (asked (now (comps .entry)) count x0 y0 x1 y1 space (now (profile .entry)) codestream (length (now (d .entry)))))) ⌝ }
+{
+    if answer.len() < 4 {
+        return 0;
+    }
+    let r = jp2_write::write_boxes(comps, count, x0, y0, x1, y1, space, profile, codestream, d);
+    tell_written(r, answer);
     4
 }

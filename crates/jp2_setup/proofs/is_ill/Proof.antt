@@ -1,0 +1,32 @@
+-- `jp2_setup::is_ill` meets its contract.
+-- Assumes nothing.
+use native.Mathlib.Omega.{arith}
+use borrow.Author.Needs.{needs}
+use mathlib.Core.Bool.{true}
+use Rattle.jp2_cio.specs.Table.{_<?_}
+use Rattle.jp2_written.specs.Writing.{ill}
+use Rattle.jp2_comps.proofs.Answers.{shown, same}
+use Rattle.jp2_setup.specs.Parts.{listed}
+use Rattle.jp2_setup.proofs.is_ill.Statement.{statement}
+use Rattle.jp2_setup.proofs.is_ill.Tie as tie
+
+component-requires : tie.Need-component-requires
+component-requires c κs = search needs
+
+returns : tie.Need-returns
+returns c = let a = c .before .before .before .args in shown true (ill (listed (a .comps .now)) (a .c)) (λ some. absurd (some (omega arith)))
+
+returns-2 : tie.Need-returns-2
+returns-2 c = let a = c .before .before .before .before .args in shown true (ill (listed (a .comps .now)) (a .c)) (λ some few. absurd (omega arith))
+
+component-requires-2 : tie.Need-component-requires-2
+component-requires-2 c κs = search needs
+
+returns-3 : tie.Need-returns-3
+returns-3 c =
+    let a = c .before .before .before .before .before .args in
+    same (1 <? c .component2 .result) (ill (listed (a .comps .now)) (a .c)) (λ h some few. omega arith) (λ h. omega arith)
+
+pub is-ill-spec : {M : Type 1} → statement M
+is-ill-spec =
+    tie.close (tie.spec component-requires returns returns-2 component-requires-2 returns-3)
