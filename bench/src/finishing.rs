@@ -1,60 +1,34 @@
 //! Finishing one picture, by the port and by the crate.
 
-use crate::table::seconds;
+use crate::clock::seconds;
+use crate::port;
 use crate::Disagreement;
 use oracle::bare::{self, Image};
-use oracle::{Component, Plane, NO_DATA};
+use oracle::{Component, FinishingRequest, Plane, NO_DATA};
 use std::hint::black_box;
 
-#[link(name = "jp2_export", kind = "static")]
-unsafe extern "C" {
-    fn cuzhantir_picture(
-        file: *const u8,
-        file_len: usize,
-        ignore: u32,
-        comps: *const u32,
-        comps_len: usize,
-        count: u32,
-        samples: *const i32,
-        samples_len: usize,
-        records: *mut u32,
-        records_len: usize,
-        planes: *mut i32,
-        planes_len: usize,
-        answer: *mut u64,
-        answer_len: usize,
-    ) -> u32;
-}
-
-/// What is handed in.
+/// What is handed in: to the port as numbers, to the crate as components.
 pub struct Picture {
-    pub file: Vec<u8>,
-    pub components: Vec<Component>,
-    pub samples: Vec<i32>,
-    /// How many finished planes and samples there are.
-    pub planes: usize,
-    pub finished: usize,
+    request: FinishingRequest,
+    components: Vec<Component>,
 }
 
-/// The port's lists: the components as numbers, and the destinations.
+/// The port's destinations.
 pub struct Lists {
-    numbers: Vec<u32>,
-    records: Vec<u32>,
+    pub records: Vec<u32>,
     pub samples: Vec<i32>,
 }
 
 impl Lists {
-    /// With destinations that have been written.
-    pub fn new(picture: &Picture) -> Self {
-        let numbers = picture.components.iter().flat_map(Component::numbers);
+    /// Memory that has been written.
+    pub fn written(picture: &Picture) -> Self {
         Lists {
-            numbers: numbers.collect(),
-            records: vec![1; 13 * picture.planes],
-            samples: vec![1; picture.finished],
+            records: vec![1; picture.request.records_room],
+            samples: vec![1; picture.request.samples_room],
         }
     }
 
-    /// Puts memory that has not been touched in place of the destinations.
+    /// Puts memory that has not been touched in place of the lists.
     pub fn renew(&mut self) {
         self.records = vec![0; self.records.len()];
         self.samples = vec![0; self.samples.len()];
@@ -62,28 +36,34 @@ impl Lists {
 }
 
 impl Picture {
+    /// With as many finished planes and samples.
+    pub fn new(
+        file: Vec<u8>,
+        components: Vec<Component>,
+        samples: Vec<i32>,
+        planes: usize,
+        finished: usize,
+    ) -> Self {
+        let request = FinishingRequest {
+            file,
+            ignore: 0,
+            components: components.iter().flat_map(Component::numbers).collect(),
+            count: components.len() as u32,
+            samples,
+            records_room: 13 * planes,
+            samples_room: finished,
+        };
+        Picture {
+            request,
+            components,
+        }
+    }
+
     /// The port's four numbers.
     pub fn ours(&self, lists: &mut Lists) -> [u64; 4] {
         let mut answer = [1; 4];
-        // The pointers and lengths are those of lists that live until the call is over.
-        unsafe {
-            cuzhantir_picture(
-                self.file.as_ptr(),
-                self.file.len(),
-                0,
-                lists.numbers.as_ptr(),
-                lists.numbers.len(),
-                self.components.len() as u32,
-                self.samples.as_ptr(),
-                self.samples.len(),
-                lists.records.as_mut_ptr(),
-                lists.records.len(),
-                lists.samples.as_mut_ptr(),
-                lists.samples.len(),
-                answer.as_mut_ptr(),
-                answer.len(),
-            )
-        };
+        let Lists { records, samples } = lists;
+        port::finish(black_box(&self.request), records, samples, &mut answer);
         answer
     }
 
@@ -91,34 +71,40 @@ impl Picture {
     /// pictures is not counted.
     pub fn their_seconds(&self, calls: u32) -> f64 {
         let mut images: Vec<_> = (0..calls).map(|_| self.image()).collect();
-        let all = seconds(|| images.iter_mut().all(|image| self.theirs(image)));
+        let all = seconds(|| {
+            let images = black_box(&mut images);
+            images.iter_mut().all(|image| self.theirs(image))
+        });
         all / f64::from(calls)
     }
 
     fn image(&self) -> Image {
-        Image::new(&self.components, &self.samples).expect("the samples lie in their list")
+        Image::new(&self.components, &self.request.samples).expect("the samples lie in their list")
     }
 
     fn theirs(&self, image: &mut Image) -> bool {
-        let jp2 = bare::read(black_box(&self.file));
+        let jp2 = bare::read(black_box(&self.request.file));
         jp2.is_some_and(|mut jp2| bare::finish(&mut jp2, image, false))
     }
 
-    /// Whether both give the same picture.
-    pub fn compare(&self, name: &str) -> Result<(), Disagreement> {
-        let mut lists = Lists::new(self);
+    /// The finished picture, which both have to give.
+    pub fn finished(&self, name: &str) -> Result<Lists, Disagreement> {
+        let mut lists = Lists::written(self);
         let mut image = self.image();
         let answer = self.ours(&mut lists);
         let accepted = self.theirs(&mut image);
         let planes = image.planes();
+        let finished = [0, 0, 0, planes.len() as u64];
         let records = lists.records.chunks(13);
-        let same = planes.iter().zip(records);
-        let same = planes.len() == self.planes
-            && same
-                .into_iter()
-                .all(|(plane, record)| alike(plane, record, &lists.samples));
-        if accepted && answer == [0, 0, 0, self.planes as u64] && same {
-            return Ok(());
+        if accepted
+            && answer == finished
+            && records.len() == planes.len()
+            && planes
+                .iter()
+                .zip(records)
+                .all(|(plane, record)| alike(plane, record, &lists.samples))
+        {
+            return Ok(lists);
         }
         Err(format!("{name}: the answers differ"))
     }

@@ -1,12 +1,12 @@
 //! Times the port, the crate openjp2 0.6.1 and a plain copy on the same inputs, in one run, and prints the ratios.
 
+mod clock;
 mod files;
-#[cfg(picture)]
 mod finishing;
-#[cfg(picture)]
 mod memory;
-#[cfg(picture)]
 mod pictures;
+#[path = "../../oracle/src/compare/port.rs"]
+mod port;
 mod reading;
 mod table;
 
@@ -29,13 +29,7 @@ fn main() -> ExitCode {
 fn run() -> Result<(), Disagreement> {
     let mut table = Table::new();
     reading::time(&mut table)?;
-    #[cfg(picture)]
     pictures::time(&mut table)?;
     table.end();
-    if cfg!(not(picture)) {
-        println!(
-            "Left out: finishing and reordering, because the library has no cuzhantir_picture."
-        );
-    }
     Ok(())
 }

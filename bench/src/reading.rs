@@ -1,17 +1,12 @@
 //! Reading a file.
 
+use crate::clock::seconds_of_one;
 use crate::files::{bpcc, cdef, cmap, colr, file, ihdr, pclr, reversed};
-use crate::table::{seconds_of_one, Case, Table};
+use crate::port;
+use crate::table::{Case, Table};
 use crate::Disagreement;
+use oracle::numbers::{self, COUNT};
 use std::hint::black_box;
-
-#[link(name = "jp2_export", kind = "static")]
-unsafe extern "C" {
-    fn cuzhantir_read(file: *const u8, file_len: usize, out: *mut u64, out_len: usize) -> u32;
-}
-
-/// As many numbers has an answer.
-const NUMBERS: usize = 44;
 
 pub fn time(table: &mut Table) -> Result<(), Disagreement> {
     let files = [
@@ -40,9 +35,8 @@ pub fn time(table: &mut Table) -> Result<(), Disagreement> {
 }
 
 fn time_file(table: &mut Table, name: &str, file: &[u8], calls: u32) -> Result<(), Disagreement> {
-    let theirs = oracle::read(file).codestream;
-    let ours = read(file);
-    if ours[0] != 0 || Some(ours[1]) != theirs {
+    let asked = numbers::expected(file, &oracle::read(file));
+    if asked.map(|numbers| numbers.map(u64::from)) != Some(read(file)) {
         return Err(format!("reading, {name}: the answers differ"));
     }
     let mut copied = file.to_vec();
@@ -58,9 +52,8 @@ fn time_file(table: &mut Table, name: &str, file: &[u8], calls: u32) -> Result<(
     Ok(())
 }
 
-fn read(file: &[u8]) -> [u64; NUMBERS] {
-    let mut out = [0; NUMBERS];
-    // The pointers and lengths are those of slices that live until the call is over.
-    unsafe { cuzhantir_read(file.as_ptr(), file.len(), out.as_mut_ptr(), out.len()) };
+fn read(file: &[u8]) -> [u64; COUNT] {
+    let mut out = [0; COUNT];
+    port::read(file, &mut out);
     out
 }

@@ -1,21 +1,19 @@
-//! The port, as its static library gives it.
+//! What the port answers, and that it keeps to the lists that it is handed.
 
+use crate::port;
 use oracle::numbers::{Numbers, COUNT};
+use oracle::FinishingRequest;
 
-#[link(name = "jp2_export", kind = "static")]
-unsafe extern "C" {
-    /// Reads a file and writes the numbers of the answer, in the order of `oracle::numbers`. Answers how many it
-    /// wrote, or 0 where `out` is too short for them.
-    fn cuzhantir_read(file: *const u8, file_len: usize, out: *mut u64, out_len: usize) -> u32;
-}
+/// What stands where the port has written no number of an answer; no answer has it.
+pub const UNWRITTEN: u64 = 0xdead_beef_dead_beef;
 
-/// What stands where the port has written nothing; no answer has it.
-const UNWRITTEN: u64 = 0xdead_beef_dead_beef;
+/// So many numbers stand behind each list that finishing writes to, and have to stay.
+const BEHIND: usize = 3;
 
-/// What the port answers; none where it does not write all numbers, or one that no file can give.
+/// The answer of reading; none where the port does not write all numbers, or one that no file can give.
 pub fn read(file: &[u8]) -> Option<Numbers> {
     let mut out = [UNWRITTEN; COUNT];
-    let count = call(file, &mut out);
+    let count = port::read(file, &mut out);
     let mut numbers = [0; COUNT];
     for (number, written) in numbers.iter_mut().zip(out) {
         *number = u32::try_from(written).ok()?;
@@ -23,13 +21,58 @@ pub fn read(file: &[u8]) -> Option<Numbers> {
     (count == COUNT as u32).then_some(numbers)
 }
 
-/// Whether the port leaves a list alone that is one number too short, and says so.
+/// Whether reading leaves a list alone that is one number too short, and says so.
 pub fn minds_its_room(file: &[u8]) -> bool {
     let mut numbers = [UNWRITTEN; COUNT - 1];
-    call(file, &mut numbers) == 0 && numbers.iter().all(|number| *number == UNWRITTEN)
+    port::read(file, &mut numbers) == 0 && numbers.iter().all(|number| *number == UNWRITTEN)
 }
 
-fn call(file: &[u8], out: &mut [u64]) -> u32 {
-    // The pointers and lengths are those of slices that live until the call is over.
-    unsafe { cuzhantir_read(file.as_ptr(), file.len(), out.as_mut_ptr(), out.len()) }
+/// The answer of finishing and both destinations, whole and with what stands behind them.
+pub struct Finished {
+    /// What the function returned.
+    pub returned: u32,
+    pub answer: Vec<u64>,
+    pub records: Vec<u32>,
+    pub samples: Vec<i32>,
+}
+
+/// What stands in the destinations before; hardly a finished picture has it, and no two numbers next to each other are
+/// the same.
+pub fn record_pattern(index: usize) -> u32 {
+    0xa5a5_0000 ^ (index as u32).wrapping_mul(0x9e37_79b1)
+}
+
+pub fn sample_pattern(index: usize) -> i32 {
+    record_pattern(index + 7) as i32
+}
+
+/// Finishes a picture with a list of `length` numbers for the answer.
+pub fn finish(picture: &FinishingRequest, length: usize) -> Finished {
+    let (records_room, samples_room) = (picture.records_room, picture.samples_room);
+    let mut answer = vec![UNWRITTEN; length + BEHIND];
+    let mut records: Vec<_> = (0..records_room + BEHIND).map(record_pattern).collect();
+    let mut samples: Vec<_> = (0..samples_room + BEHIND).map(sample_pattern).collect();
+    let returned = port::finish(
+        picture,
+        &mut records[..records_room],
+        &mut samples[..samples_room],
+        &mut answer[..length],
+    );
+    Finished {
+        returned,
+        answer,
+        records,
+        samples,
+    }
+}
+
+/// Whether finishing writes nothing at all where its list for the answer is as short as this, and says so.
+pub fn minds_its_answer(picture: &FinishingRequest, length: usize) -> bool {
+    let finished = finish(picture, length);
+    let mut records = finished.records.iter().enumerate();
+    let mut samples = finished.samples.iter().enumerate();
+    finished.returned == 0
+        && finished.answer.iter().all(|number| *number == UNWRITTEN)
+        && records.all(|(index, number)| *number == record_pattern(index))
+        && samples.all(|(index, sample)| *sample == sample_pattern(index))
 }

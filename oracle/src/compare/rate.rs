@@ -1,7 +1,8 @@
 //! How fast both read boxes, and that the time grows with the file and no faster.
 
-use crate::check::check;
+use crate::comparison::Checked;
 use crate::ours;
+use crate::reading::CheckedFile;
 use oracle::generate::{plain, FREE, FTYP, IHDR, JP, JP2C, JP2H, MAGIC};
 use std::hint::black_box;
 use std::time::Instant;
@@ -23,7 +24,7 @@ pub fn rate() -> bool {
     for (name, make) in makers {
         for megabytes in MEGABYTES {
             let file = make(megabytes * MEGABYTE);
-            if !check(&file).same() {
+            if !CheckedFile::new(&file, 0).differences().is_empty() {
                 println!("{name:<16}{megabytes:>6}  the answers differ");
                 return false;
             }

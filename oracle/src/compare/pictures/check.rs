@@ -1,6 +1,8 @@
 //! One picture, finished by both.
 
-use super::ours::{self, Finished};
+use super::tally::Tally;
+use crate::comparison::Checked;
+use crate::ours::{self, Finished};
 use oracle::finished::{self, Answer};
 use oracle::FinishingRequest;
 
@@ -8,7 +10,7 @@ use oracle::FinishingRequest;
 const PRINTED: usize = 200;
 
 /// What both made of a picture.
-pub struct Checked {
+pub struct CheckedPicture {
     /// What document 01 asks for by the crate's answer, or why there is none.
     pub asked: Result<Answer, String>,
     ours: Finished,
@@ -16,20 +18,22 @@ pub struct Checked {
     unminded: Option<usize>,
 }
 
-/// The list for the answer is just long enough or one longer, in turn. The picture is finished once more with one that is
-/// too short, of another length in turn.
-pub fn check(picture: &FinishingRequest, number: u64) -> Checked {
-    let short = number as usize % 4;
-    Checked {
-        asked: finished::answer(picture),
-        ours: ours::finish(picture, 4 + number as usize % 2),
-        unminded: (!ours::minds_its_answer(picture, short)).then_some(short),
-    }
-}
+impl Checked for CheckedPicture {
+    type Input = FinishingRequest;
+    type Tally = Tally;
 
-impl Checked {
-    /// What differs, in words.
-    pub fn differences(&self) -> Vec<String> {
+    /// The list for the answer is just long enough or one longer, in turn. The picture is finished once more with one
+    /// that is too short, of another length in turn.
+    fn new(picture: &FinishingRequest, number: u64) -> Self {
+        let short = number as usize % 4;
+        CheckedPicture {
+            asked: finished::answer(picture),
+            ours: ours::finish(picture, 4 + number as usize % 2),
+            unminded: (!ours::minds_its_answer(picture, short)).then_some(short),
+        }
+    }
+
+    fn differences(&self) -> Vec<String> {
         let asked = match &self.asked {
             Ok(asked) => asked,
             Err(why) => return vec![format!("no answer of document 01: {why}")],
@@ -69,8 +73,7 @@ impl Checked {
         found
     }
 
-    /// The picture and both answers, for a reader.
-    pub fn print(&self, picture: &FinishingRequest, differences: &[String]) {
+    fn print(&self, picture: &FinishingRequest) {
         print!("  file  ");
         picture.file.iter().for_each(|byte| print!("{byte:02x}"));
         println!();
@@ -88,9 +91,6 @@ impl Checked {
         println!("  ours  answer {:?}", &self.ours.answer[..4]);
         print_list("ours, records", &self.ours.records);
         print_list("ours, samples", &self.ours.samples);
-        for difference in differences {
-            println!("  differs  {difference}");
-        }
     }
 }
 

@@ -1,6 +1,8 @@
 //! How often each outcome came up.
 
-use oracle::finished::{Answer, FINISHED};
+use super::check::CheckedPicture;
+use crate::comparison;
+use oracle::finished::FINISHED;
 use std::collections::BTreeMap;
 
 #[derive(Default)]
@@ -13,9 +15,9 @@ pub struct Tally {
     samples: u64,
 }
 
-impl Tally {
-    pub fn count(&mut self, asked: &Result<Answer, String>) {
-        let Ok(asked) = asked else {
+impl comparison::Tally<CheckedPicture> for Tally {
+    fn count(&mut self, checked: &CheckedPicture) {
+        let Ok(asked) = &checked.asked else {
             self.unanswered += 1;
             return;
         };
@@ -28,7 +30,7 @@ impl Tally {
         self.samples += asked.samples.len() as u64;
     }
 
-    pub fn print(&self) {
+    fn print(&self) {
         let (planes, samples) = (self.planes, self.samples);
         println!(
             "{:>10} finished, {planes} planes, {samples} samples",

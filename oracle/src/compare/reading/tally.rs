@@ -1,6 +1,8 @@
 //! How often each outcome came up.
 
-use oracle::numbers::{index, Numbers, CODESTREAM, ENDED, REFUSED};
+use super::check::CheckedFile;
+use crate::comparison;
+use oracle::numbers::{index, CODESTREAM, ENDED, REFUSED};
 
 /// Document 01's numbers about reading; 1 is for files over 4 GiB and does not come up.
 const REFUSALS: std::ops::RangeInclusive<usize> = 2..=24;
@@ -25,9 +27,9 @@ pub struct Tally {
     parts: [u64; PARTS.len()],
 }
 
-impl Tally {
-    pub fn count(&mut self, asked: Option<&Numbers>) {
-        let Some(asked) = asked else {
+impl comparison::Tally<CheckedFile> for Tally {
+    fn count(&mut self, checked: &CheckedFile) {
+        let Some(asked) = &checked.asked else {
             self.unanswered += 1;
             return;
         };
@@ -43,7 +45,7 @@ impl Tally {
         }
     }
 
-    pub fn print(&self) {
+    fn print(&self) {
         println!("{:>10} codestream", self.codestream);
         println!("{:>10} ended", self.ended);
         for number in REFUSALS {

@@ -1,0 +1,62 @@
+//! The port: what its static library exports, for lists. The comparison and the bench both include this file.
+
+use oracle::FinishingRequest;
+
+#[link(name = "jp2_export", kind = "static")]
+unsafe extern "C" {
+    fn cuzhantir_read(file: *const u8, file_len: usize, out: *mut u64, out_len: usize) -> u32;
+
+    fn cuzhantir_picture(
+        file: *const u8,
+        file_len: usize,
+        ignore: u32,
+        comps: *const u32,
+        comps_len: usize,
+        count: u32,
+        samples: *const i32,
+        samples_len: usize,
+        records: *mut u32,
+        records_len: usize,
+        planes: *mut i32,
+        planes_len: usize,
+        answer: *mut u64,
+        answer_len: usize,
+    ) -> u32;
+}
+
+/// Reads a file and writes the numbers of the answer, in the order of `oracle::numbers`. Answers how many it wrote, or
+/// 0 where `out` is too short for them.
+pub fn read(file: &[u8], out: &mut [u64]) -> u32 {
+    // The pointers and lengths are those of slices that live until the call is over.
+    unsafe { cuzhantir_read(file.as_ptr(), file.len(), out.as_mut_ptr(), out.len()) }
+}
+
+/// Reads a picture's file and finishes the picture. Writes kind, number, place and number of planes to `answer`,
+/// finished records to `records` and finished samples to `planes`; their lengths are the room, not the picture's.
+/// Answers 4, or 0 where `answer` is too short.
+pub fn finish(
+    picture: &FinishingRequest,
+    records: &mut [u32],
+    planes: &mut [i32],
+    answer: &mut [u64],
+) -> u32 {
+    // The pointers and lengths are those of slices that live until the call is over.
+    unsafe {
+        cuzhantir_picture(
+            picture.file.as_ptr(),
+            picture.file.len(),
+            picture.ignore,
+            picture.components.as_ptr(),
+            picture.components.len(),
+            picture.count,
+            picture.samples.as_ptr(),
+            picture.samples.len(),
+            records.as_mut_ptr(),
+            records.len(),
+            planes.as_mut_ptr(),
+            planes.len(),
+            answer.as_mut_ptr(),
+            answer.len(),
+        )
+    }
+}
