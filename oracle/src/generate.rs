@@ -1,8 +1,9 @@
-//! JP2 files to read and pictures to finish, sound and unsound, the same for the same seed.
+//! JP2 files to read, pictures to finish and writings, sound and unsound, the same for the same seed.
 //!
 //! [`Generator`] makes as many as are wanted: most put together box by box with here and there something wrong, some
 //! by changing bytes of these or of real pictures. [`systematic`] goes through what can be gone through whole: orders,
-//! lengths, cuts, widths and counts. [`Pictures`] and `arrangements.rs` do the same for pictures.
+//! lengths, cuts, widths and counts. [`Pictures`] and `arrangements.rs` do the same for pictures, [`Writings`]
+//! and `requests.rs` for writings.
 
 mod arrangements;
 mod boxes;
@@ -15,7 +16,9 @@ mod mutation;
 mod pictures;
 mod planes;
 mod random;
+mod requests;
 mod systematic;
+mod writings;
 
 use files::Maker;
 use mutation::mutate;
@@ -28,7 +31,11 @@ pub use arrangements::{
 pub use boxes::{plain, FREE, FTYP, IHDR, JP, JP2C, JP2H};
 pub use contents::MAGIC;
 pub use pictures::Pictures;
+pub use requests::{
+    corners, depths, large_writings, mark_patterns, writing_edges, wrong_together,
+};
 pub use systematic::{edges, orders, systematic, tables};
+pub use writings::Writings;
 
 /// Files from a seed. Each is made from the seed and its number alone, so one can be had without those before it.
 pub struct Generator {

@@ -9,8 +9,9 @@
 //! - [`write`]: the bytes that the encoder's JP2 part puts before a codestream;
 //! - [`leaves`]: box kinds, box headers and numbers of 1 to 4 bytes, each by itself;
 //! - [`finished`]: what the port has to answer to a picture, by the crate and, where it says nothing, by document 01;
+//! - [`written`]: what the port has to answer to a writing, likewise;
 //! - [`bare`]: the same runs with nothing listening and nothing copied out, for taking the time;
-//! - [`generate`]: files to read and pictures to finish, from a seed;
+//! - [`generate`]: files to read, pictures to finish and writings, from a seed;
 //! - [`numbers`]: what reading answers as a row of numbers, in the order that the port gives them.
 //!
 //! A panic inside the crate is an answer, [`Outcome::Panic`], and prints nothing.
@@ -73,6 +74,7 @@ mod openjpeg;
 mod asking;
 pub mod bare;
 mod expected;
+mod expected_writing;
 pub mod finished;
 mod finishing;
 pub mod generate;
@@ -86,6 +88,7 @@ mod record;
 mod refusal;
 mod walk;
 mod writing;
+pub mod written;
 
 pub use asking::{Level, Message, Outcome};
 pub use finishing::{finish, Finishing};

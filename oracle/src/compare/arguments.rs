@@ -12,6 +12,8 @@ pub enum Task {
         samples: Option<PathBuf>,
         /// Of generated pictures; none where finishing is not compared.
         pictures: Option<u64>,
+        /// Of generated writings; none where writing is not compared.
+        writings: Option<u64>,
     },
 }
 
@@ -19,6 +21,7 @@ pub enum Task {
 pub fn parse(arguments: impl Iterator<Item = String>) -> Result<Task, String> {
     let mut arguments = arguments;
     let (mut seed, mut count, mut samples, mut pictures) = (None, None, None, None);
+    let mut writings = None;
     while let Some(name) = arguments.next() {
         let mut value = || arguments.next().ok_or(format!("{name} lacks its value"));
         match name.as_str() {
@@ -27,18 +30,20 @@ pub fn parse(arguments: impl Iterator<Item = String>) -> Result<Task, String> {
             "--seed" => seed = Some(number(&value()?)?),
             "--count" => count = Some(number(&value()?)?),
             "--pictures" => pictures = Some(number(&value()?)?),
+            "--writings" => writings = Some(number(&value()?)?),
             "--samples" => samples = Some(PathBuf::from(value()?)),
             _ => return Err(format!("{name} is no argument")),
         }
     }
-    if count.is_none() && pictures.is_none() {
-        return Err("--count is missing, or --pictures".to_owned());
+    if count.is_none() && pictures.is_none() && writings.is_none() {
+        return Err("--count is missing, or --pictures or --writings".to_owned());
     }
     Ok(Task::Compare {
         seed: seed.ok_or("--seed is missing")?,
         count,
         samples,
         pictures,
+        writings,
     })
 }
 

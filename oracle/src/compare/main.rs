@@ -1,4 +1,5 @@
-//! Compares the port's reading with the crate's on many files, and its finishing on many pictures, and times both.
+//! Compares the port's reading with the crate's on many files, its finishing on many pictures and its writing on many
+//! requests, and times both.
 
 mod arguments;
 mod comparison;
@@ -7,6 +8,7 @@ mod pictures;
 mod port;
 mod rate;
 mod reading;
+mod writings;
 
 use arguments::Task;
 use std::path::Path;
@@ -26,7 +28,8 @@ fn main() -> ExitCode {
             count,
             samples,
             pictures,
-        }) => compare(seed, count, samples.as_deref(), pictures),
+            writings,
+        }) => compare(seed, count, samples.as_deref(), pictures, writings),
         Err(why) => Err(why),
     };
     match same {
@@ -36,12 +39,13 @@ fn main() -> ExitCode {
     }
 }
 
-/// Reading, where a number of files is given, then finishing, where a number of pictures is.
+/// Reading, finishing and writing, each where a number of files, pictures or requests is given.
 fn compare(
     seed: u64,
     count: Option<u64>,
     samples: Option<&Path>,
     pictures: Option<u64>,
+    writings: Option<u64>,
 ) -> Result<bool, String> {
     let mut same = true;
     if let Some(count) = count {
@@ -49,6 +53,9 @@ fn compare(
     }
     if let Some(count) = pictures {
         same &= pictures::compare(seed, count);
+    }
+    if let Some(count) = writings {
+        same &= writings::compare(seed, count);
     }
     Ok(same)
 }
