@@ -53,3 +53,7 @@ module _ (r : Request) (d : List ℕ) where
 
   pub comes-back : {w : Written} {e : List ℕ} {b : Reading} → bytesOf w ≤ 4294967295 → w ≡ answered (write r) → e ≡ destination d (write r) → b ≡ readingOf w e → ComesBack r w e b
   comes-back most a p q = comes (write r) refl most a p q
+
+-- the promise is not an empty one: of bytes that were written it tells what comes back
+pub speaks : (r : Request) (n : ℕ) (d : List ℕ) (b : Reading) → ComesBack r (Bytes n) d b → (b .answer ≡ Codestream n) × ReadBack r (take n d) (b .jp2)
+speaks r n d b back = back n refl

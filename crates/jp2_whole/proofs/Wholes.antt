@@ -23,7 +23,9 @@ use Rattle.jp2_picture.proofs.Destinations.{right-in-place}
 use Rattle.jp2_finish.specs.declared.Finished.{Finished}
 use Rattle.jp2_finish.specs.declared.Finished.the-variants.{Planes, Refused}
 use Rattle.jp2_finish.specs.Answers.{answered, recordsAfter, samplesAfter}
-use Rattle.jp2_whole.specs.Whole.{thenFinish, pictured, PictureRight}
+use Rattle.jp2_picture.specs.Met.{Met, direct, directPlanes, paletted, palettedPlanes}
+use Rattle.jp2_picture.proofs.Mets.{direct-met, palette-met}
+use Rattle.jp2_whole.specs.Whole.{thenFinish, pictured, PictureRight, Speaks}
 
 -- the cases of an answer that refuse nothing: codestream and ended
 abbrev pub reads : List ℕ
@@ -71,3 +73,13 @@ module _ (h : Handed) where
   pub shows-refused : {number place : ℕ} (records : List ℕ) (planes : List ℤ) → pictured h ≡ declined number place → Shown (Refused number place) records records planes planes
   unfolding answered recordsAfter samplesAfter
   shows-refused {number} {place} records planes is = shows (declined number place) records planes is refl refl refl
+
+-- the rule in the promise is not an empty one: with a palette and without, its premises are met
+speaks : (h : Handed) (planes : Image) (other : List ℕ) → Met h planes other → Speaks h planes
+speaks h planes other met rule = (met .kept, rule (met .kept) (planes .count) (met .accepted .reading) refl (met .defined) (met .clear))
+
+pub speaks-direct : Speaks direct directPlanes
+speaks-direct = speaks direct directPlanes _ direct-met
+
+pub speaks-paletted : Speaks paletted palettedPlanes
+speaks-paletted = speaks paletted palettedPlanes _ palette-met

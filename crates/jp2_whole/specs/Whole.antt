@@ -8,7 +8,7 @@ use Rattle.jp2_record.specs.declared.Jp2.{Jp2}
 use Rattle.jp2_record.specs.Answer.{Result, accepted, refused}
 use Rattle.jp2_file.specs.File.{read}
 use Rattle.jp2_reading.specs.Alike.{given}
-use Rattle.jp2_picture.specs.Image.{image}
+use Rattle.jp2_picture.specs.Image.{Image, image}
 use Rattle.jp2_picture.specs.Finish.{Finishing, declined, finish}
 use Rattle.jp2_picture.specs.Words.{Handed, Defined, Clear}
 use Rattle.jp2_picture.specs.PictureRule.{RightPlanes}
@@ -32,3 +32,7 @@ pictured h = thenFinish (given (read (h .file))) (λ m. finish (h .file) m (h .i
 abbrev pub PictureRight : Handed → Finished → List ℕ → List ℤ → Type 0
 PictureRight h answer records planes =
     (m : Jp2) (n : ℕ) → given (read (h .file)) ≡ accepted m → answer ≡ Planes n → Defined h m → Clear h m → RightPlanes h m (image records n planes)
+
+-- it says something: of these planes for what is handed in, it tells that they are right
+abbrev pub Speaks : Handed → Image → Type 0
+Speaks h planes = PictureRight h (Planes (planes .count)) (planes .components) (planes .samples) → (m : Jp2) × RightPlanes h m planes
