@@ -1,8 +1,9 @@
-//! Writes a list of files and a list of pictures with the crate's answers, for replaying against the port.
+//! Writes lists of files, of pictures and of writings with the crate's answers, for replaying against the port.
 
 mod arguments;
 mod choice;
 mod pictures;
+mod writings;
 
 use choice::Choice;
 use oracle::generate::{edges, orders, tables, Generator};
@@ -10,6 +11,7 @@ use oracle::numbers::Numbers;
 use pictures::PictureChoice;
 use std::path::{Path, PathBuf};
 use std::process::ExitCode;
+use writings::WritingChoice;
 
 const HELP: &str = include_str!("help.txt");
 
@@ -42,6 +44,7 @@ fn run(task: &arguments::Task) -> Result<(), String> {
         pictures,
         files_path,
         pictures_path,
+        writings_path,
     } = task
     else {
         print!("{HELP}");
@@ -53,6 +56,15 @@ fn run(task: &arguments::Task) -> Result<(), String> {
     if let Some(path) = pictures_path {
         let choice = PictureChoice::new(*seed)?;
         write(path, &choice.bytes())?;
+        choice.print();
+    }
+    if let Some(path) = writings_path {
+        let choice = WritingChoice::new(*seed)?;
+        let bytes = choice.bytes();
+        if bytes.len() > writings::MOST_BYTES {
+            return Err(format!("the list would have {} bytes", bytes.len()));
+        }
+        write(path, &bytes)?;
         choice.print();
     }
     Ok(())

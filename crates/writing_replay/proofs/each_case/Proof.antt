@@ -1,0 +1,78 @@
+-- `writing_replay::each_case` meets its contract.
+-- Assumes nothing.
+use Prim.Native.Nat.{_≤_, _-_}
+use native.Mathlib.Omega.{arith}
+use borrow.Author.Needs.{needs}
+use mathlib.Core.Path.{_≡_}
+use lib.ListN.{length}
+use Rattle.writing_replay.proofs.each_case.Statement.{statement}
+use Rattle.writing_replay.proofs.each_case.Tie as tie
+
+abbrev Inv-loop : tie.InvT-loop
+Inv-loop list cases comps₀ d₀ tally₀ rest₀ agreed₀ i₀ comps d tally rest agreed i = (i ≤ cases) × (agreed ≤ i) × (length comps ≡ length comps₀) × (length d ≡ length d₀) × (length tally ≡ length tally₀)
+
+abbrev μ-loop : tie.MeasureT-loop
+μ-loop list cases comps₀ d₀ tally₀ rest₀ agreed₀ i₀ comps d tally rest agreed i = cases - i
+
+loop-holds : tie.Need-loop-holds Inv-loop μ-loop
+loop-holds c = omega arith
+
+case-length-requires : tie.Need-case-length-requires Inv-loop μ-loop
+case-length-requires c κs = search needs
+
+case-requires : tie.Need-case-requires Inv-loop μ-loop
+case-requires c κs = search needs
+
+add-agreed : tie.Need-add-agreed Inv-loop μ-loop
+add-agreed c = omega arith
+
+sub-rest : tie.Need-sub-rest Inv-loop μ-loop
+sub-rest c = omega arith
+
+part-rest-start : tie.Need-part-rest-start Inv-loop μ-loop
+part-rest-start c = omega arith
+
+part-rest-end : tie.Need-part-rest-end Inv-loop μ-loop
+part-rest-end c = omega arith
+
+add-i : tie.Need-add-i Inv-loop μ-loop
+add-i c = omega arith
+
+loop-less : tie.Need-loop-less Inv-loop μ-loop
+loop-less c = omega arith
+
+loop-again : tie.Need-loop-again Inv-loop μ-loop
+loop-again c = omega arith
+
+same-length : tie.Need-same-length Inv-loop μ-loop
+same-length c = c .before .loop .inv .2
+
+same-length-2 : tie.Need-same-length-2 Inv-loop μ-loop
+same-length-2 c = c .before .loop .inv .3
+
+same-length-3 : tie.Need-same-length-3 Inv-loop μ-loop
+same-length-3 c = c .before .loop .inv .4
+
+returns : tie.Need-returns Inv-loop μ-loop
+returns c = search needs
+
+pub each-case-spec : {M : Type 1} → statement M
+each-case-spec =
+    tie.close
+    (tie.spec
+    Inv-loop
+    μ-loop
+    loop-holds
+    case-length-requires
+    case-requires
+    add-agreed
+    sub-rest
+    part-rest-start
+    part-rest-end
+    add-i
+    loop-less
+    loop-again
+    same-length
+    same-length-2
+    same-length-3
+    returns)
