@@ -1,0 +1,12 @@
+-- `picture_replay::list_room` meets its contract.
+-- Assumes nothing.
+use Prim.Native.Nat.{ℕ}
+use Rattle.picture_replay.proofs.Rooms.{long}
+use Rattle.picture_replay.proofs.list_room.Statement.{statement}
+use Rattle.picture_replay.proofs.list_room.Tie as tie
+
+returns : tie.Need-returns
+returns c = long {A = ℕ} 1500000 0
+
+pub list-room-spec : {M : Type 1} → statement M
+list-room-spec = tie.close (tie.spec returns)
