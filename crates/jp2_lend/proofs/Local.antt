@@ -73,10 +73,10 @@ abbrev stayed : Stays (this.ended .signature .params) (this.ended .kept)
 stayed = (stay-dropped content-slot yes, (stay-dropped number-slot yes, (stay-dropped number-slot yes, (stay-dropped record-slot yes, tt))))
 
 -- the machine values of a record
-abbrev val : Jp2 → Val
+abbrev pub val : Jp2 → Val
 val = LL.val T.the-type T′.the-laws
 
-abbrev vals : Jp2 → List Val
+abbrev pub vals : Jp2 → List Val
 vals = LL.vals T.the-type T′.the-laws
 
 -- the contract of the function over a lent record
@@ -100,13 +100,13 @@ function key = record {
 
 -- ---- a local that holds a record, as what a borrow holds, and back
 module _ {M : Type 1} (𝓤 : URA M) (H : Heap 𝓤) (A : Atoms 𝓤) (W : Given 𝓤 H A) (g : Jp2) (l : ℕ) where
-  laid : ent 𝓤 (sep 𝓤 (H .at fullShare T′.mir l 0 (val g)) (sem 𝓤 H A (R .own g (vals g)))) (sem 𝓤 H A (mem R .lies g l 0))
+  pub laid : ent 𝓤 (sep 𝓤 (H .at fullShare T′.mir l 0 (val g)) (sem 𝓤 H A (R .own g (vals g)))) (sem 𝓤 H A (mem R .lies g l 0))
   unfolding partOf
   laid =
       qed W (‵ (fat fullShare T′.mir l 0 (val g)) ∷ ‵ (R .own g (vals g)) ∷ []) ∵ use1 W (‵ (cellAt fullShare (R .mir) (vals g) l 0)) (W .laws .at-raw fullShare T′.mir l 0 (val g)) $
       fjoin ! $ fpack ! (List Val) (λ us. fsep (cellAt fullShare (R .mir) us l 0) (R .own g us)) (vals g) $ done !
 
-  taken : ent 𝓤 (sem 𝓤 H A (mem R .lies g l 0)) (sep 𝓤 (H .at fullShare T′.mir l 0 (val g)) (sem 𝓤 H A (R .own g (vals g))))
+  pub taken : ent 𝓤 (sem 𝓤 H A (mem R .lies g l 0)) (sep 𝓤 (H .at fullShare T′.mir l 0 (val g)) (sem 𝓤 H A (R .own g (vals g))))
   unfolding partOf
   taken =
       qed W (‵ (mem R .lies g l 0) ∷ []) ∵ fpick ! (λ vs. fsplit ! $ spelt ! R (Is R) (shows 𝓤 H A R) vals (LL.tells T.the-type T′.the-laws) fullShare g vs l 0 $

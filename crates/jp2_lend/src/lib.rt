@@ -10,6 +10,8 @@ ghost use Rattle.jp2_palette.specs.Pclr.{pclr};
 ghost use Rattle.jp2_palette.specs.Cmap.{cmap};
 ghost use Rattle.jp2_palette.specs.Cdef.{cdef};
 ghost use Rattle.jp2_walk.specs.Jp2h.{jp2hAlone};
+ghost use Rattle.jp2_file.specs.File.{walk, reading};
+use jp2_file::Reading;
 use jp2_record::Jp2;
 use jp2_record::Outcome;
 
@@ -83,4 +85,12 @@ pub fn lend_jp2h(c: &[u8], place: u32, start: u32, j: Jp2) -> Outcome
     let mut k = j;
     let a = jp2_lent::opj_jp2_read_jp2h(c, place, start, &mut k);
     Outcome { answer: a, jp2: k }
+}
+
+pub fn lend_header_procedure(s: &[u8], j: Jp2) -> Reading
+    ensures { λ r. ⌜ r ≡ reading j (walk (now (s .entry)) j) ⌝ }
+{
+    let mut k = j;
+    let a = jp2_lent::opj_jp2_read_header_procedure(s, &mut k);
+    Reading { answer: a, jp2: k }
 }
