@@ -16,7 +16,18 @@ pub fn came(case: &[u8], file: &[u8]) {
     let r = jp2_file::read_file(file);
     let a = r.answer;
     answer(a);
+    lent(file);
     text(b"\n");
+}
+
+// The same over a lent record, and the width that stands in it afterwards.
+fn lent(file: &[u8]) {
+    text(b"; lent ");
+    let r = jp2_lend::lend_header_procedure(file, jp2_record::opj_jp2_create());
+    let a = r.answer;
+    answer(a);
+    text(b", width ");
+    decimal(r.jp2.image.w);
 }
 
 fn answer(a: FileAnswer) {
