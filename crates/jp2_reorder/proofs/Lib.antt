@@ -1,0 +1,4 @@
+pub mod Again
+pub mod Numbered
+pub mod Deciding
+pub mod Going

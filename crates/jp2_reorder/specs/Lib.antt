@@ -1,0 +1,2 @@
+pub mod Comps
+pub mod Steps

@@ -1,0 +1,171 @@
+// The order of a picture's planes over a lent list of component records (`opj_jp2_apply_cdef` of jp2.rs).
+// As in jp2_cdef two lists say where each channel stands and what each position holds, so a run takes as many steps as there are definitions and channels.
+ghost use mathlib.Core.Path.{_≡_};
+ghost use Prim.Native.Nat.{ℕ, _+_, _*_, _≤_, _<_};
+ghost use lib.ListN.{getD, length, set};
+ghost use Rattle.jp2_cdef.specs.Flat.{reordered};
+ghost use Rattle.jp2_reorder.specs.Comps.{markOf, none, numbered, swapped};
+ghost use Rattle.jp2_reorder.specs.Steps.{Decided, Seated, Started, Stepped, list};
+
+// A component of a picture; `data` is the index of its first sample.
+pub struct Comp {
+    pub dx: u32,
+    pub dy: u32,
+    pub w: u32,
+    pub h: u32,
+    pub x0: u32,
+    pub y0: u32,
+    pub prec: u32,
+    pub bpp: u32,
+    pub sgnd: u32,
+    pub resno_decoded: u32,
+    pub factor: u32,
+    pub data: u32,
+    pub alpha: u32,
+}
+
+// Exchanges the records i and j.
+fn swap_comps(cs: &mut [Comp], i: usize, j: usize)
+    requires { ⌜ (i < length (now cs)) × (j < length (now cs)) ⌝ }
+    ensures { λ _. ⌜ now (cs .exit) ≡ swapped (now (cs .entry)) i j ⌝ }
+{
+    let a = cs[i];
+    cs[i] = cs[j];
+    cs[j] = a;
+}
+
+// The record with a mark, or as it is.
+fn mark_one(c: Comp, t: u16, on: bool) -> Comp
+    ensures { λ r. ⌜ r ≡ markOf c t on ⌝ }
+{
+    if on {
+        let mut d = c;
+        d.alpha = t as u32;
+        d
+    } else {
+        c
+    }
+}
+
+// Puts a mark on record i, or leaves it as it is.
+fn mark_if(cs: &mut [Comp], i: usize, t: u16, on: bool)
+    requires { ⌜ i < length (now cs) ⌝ }
+    ensures { λ _. ⌜ now (cs .exit) ≡ set (now (cs .entry)) i (markOf (getD (now (cs .entry)) i none) t on) ⌝ }
+{
+    let c = mark_one(cs[i], t, on);
+    cs[i] = c;
+}
+
+// What a definition asks: the records i and j change places, and i takes the mark t where `on` says so.
+pub struct Ask {
+    pub i: usize,
+    pub j: usize,
+    pub t: u16,
+    pub on: bool,
+}
+
+// Has channel c, at position p, change places with the channel at position q.
+fn reseat(seat: &mut [u32], held: &mut [u32], c: usize, p: usize, q: usize)
+    requires { do ⌜ (c < 16384) × (p < 16384) × (q < 16384) ⌝ }
+    requires { do ⌜ (c < (← ⟦seat.len()⟧)) × (getD (now held) q 0 < (← ⟦seat.len()⟧)) ⌝ }
+    requires { do ⌜ (p < (← ⟦held.len()⟧)) × (q < (← ⟦held.len()⟧)) ⌝ }
+    ensures { λ _. ⌜ now (seat .exit) ≡ set (set (now (seat .entry)) c q) (getD (now (held .entry)) q 0) p ⌝ }
+    ensures { λ _. ⌜ now (held .exit) ≡ set (set (now (held .entry)) q c) p (getD (now (held .entry)) q 0) ⌝ }
+{
+    let e = held[q];
+    seat[c] = q as u32;
+    seat[e as usize] = p as u32;
+    held[q] = c as u32;
+    held[p] = e;
+}
+
+// What definition k of the list at a place of the file asks.
+fn decide(seat: &mut [u32], held: &mut [u32], f: &[u8], place: usize, n: usize, k: usize) -> Ask
+    requires { ⌜ (0 < n) × Seated n (now seat) (now held) × (place + 6 * k + 6 ≤ length (now f)) ⌝ }
+    ensures { λ r. ⌜ Decided (now (f .entry)) place n k (now (seat .entry)) r (now (seat .exit)) (now (held .exit)) ⌝ }
+{
+    let at = place + 6 * k;
+    let c = jp2_cio::read_u16(f, at) as usize;
+    let typ = jp2_cio::read_u16(f, at + 2);
+    let asoc = jp2_cio::read_u16(f, at + 4) as usize;
+    if n <= c {
+        return Ask {
+            i: 0,
+            j: 0,
+            t: 0,
+            on: false,
+        };
+    }
+    let p = seat[c] as usize;
+    if asoc == 0 || asoc == 65535 {
+        return Ask {
+            i: p,
+            j: p,
+            t: typ,
+            on: true,
+        };
+    }
+    if n < asoc {
+        return Ask {
+            i: 0,
+            j: 0,
+            t: 0,
+            on: false,
+        };
+    }
+    if typ != 0 {
+        return Ask {
+            i: p,
+            j: p,
+            t: typ,
+            on: true,
+        };
+    }
+    let q = asoc - 1;
+    reseat(seat, held, c, p, q);
+    Ask {
+        i: p,
+        j: q,
+        t: 0,
+        on: true,
+    }
+}
+
+// Does definition k.
+fn step(
+    cs: &mut [Comp],
+    seat: &mut [u32],
+    held: &mut [u32],
+    f: &[u8],
+    place: usize,
+    n: usize,
+    k: usize,
+)
+    requires { ⌜ ((0 < n) × Seated n (now seat) (now held) × (place + 6 * k + 6 ≤ length (now f))) × (n ≤ length (now cs)) ⌝ }
+    ensures { λ _. ⌜ Stepped (now (f .entry)) place n k (now (cs .entry)) (now (seat .entry)) (now (cs .exit)) (now (seat .exit)) (now (held .exit)) ⌝ }
+{
+    let d = decide(seat, held, f, place, n, k);
+    swap_comps(cs, d.i, d.j);
+    mark_if(cs, d.i, d.t, d.on);
+}
+
+// Does the definitions of a list at a place of the file, in their order. `numbered` is the list of numbers that jp2_cdef works on: the first n records are as its `reordered` says,
+// record by record, and the rest is as it was.
+pub fn reorder(
+    cs: &mut [Comp],
+    seat: &mut [u32],
+    held: &mut [u32],
+    f: &[u8],
+    place: usize,
+    n: usize,
+    count: usize,
+)
+    requires { ⌜ Started n (now seat) (now held) × (0 < count → 0 < n) × (n ≤ length (now cs)) × (place + 6 * count ≤ length (now f)) ⌝ }
+    ensures { λ _. ⌜ numbered (now (cs .exit)) ≡ reordered (now (f .entry)) (list place count) n (numbered (now (cs .entry))) ⌝ }
+{
+    let mut k = 0;
+    while k < count {
+        step(cs, seat, held, f, place, n, k);
+        k += 1;
+    }
+}
