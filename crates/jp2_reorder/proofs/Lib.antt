@@ -2,3 +2,4 @@ pub mod Again
 pub mod Numbered
 pub mod Deciding
 pub mod Going
+pub mod Checking

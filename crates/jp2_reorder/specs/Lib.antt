@@ -1,2 +1,3 @@
 pub mod Comps
 pub mod Steps
+pub mod Tasks

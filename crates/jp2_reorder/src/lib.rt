@@ -6,6 +6,9 @@ ghost use lib.ListN.{getD, length, set};
 ghost use Rattle.jp2_cdef.specs.Flat.{reordered};
 ghost use Rattle.jp2_reorder.specs.Comps.{markOf, none, numbered, swapped};
 ghost use Rattle.jp2_reorder.specs.Steps.{Decided, Seated, Started, Stepped, list};
+ghost use Rattle.jp2_reorder.specs.Tasks.{Tasked, idle};
+use jp2_record::Answer;
+use jp2_record::Span;
 
 // A component of a picture; `data` is the index of its first sample.
 pub struct Comp {
@@ -167,5 +170,67 @@ pub fn reorder(
     while k < count {
         step(cs, seat, held, f, place, n, k);
         k += 1;
+    }
+}
+
+// Numbers every place of a list by itself.
+pub fn begin() -> [u32; 16384]
+    ensures { λ r. ⌜ (length r ≡ 16384) × ((i : ℕ) → i < 16384 → getD r i 0 ≡ i) ⌝ }
+{
+    let mut list = [0u32; 16384];
+    let mut i: usize = 0;
+    while i < 16384 {
+        list[i] = i as u32;
+        i += 1;
+    }
+    list
+}
+
+// What a run is to do, and what is answered.
+pub struct Task {
+    pub answer: Answer,
+    pub place: usize,
+    pub n: usize,
+    pub count: usize,
+}
+
+fn nothing(answer: Answer) -> Task
+    ensures { λ r. ⌜ r ≡ idle answer ⌝ }
+{
+    Task {
+        answer: answer,
+        place: 0,
+        n: 0,
+        count: 0,
+    }
+}
+
+// Checks what is handed in: m records, of which n are in the picture.
+pub fn check(f: &[u8], cdef: Span, m: usize, n: u32) -> Task
+    ensures { λ r. ⌜ Tasked (now (f .entry)) cdef m n r ⌝ }
+{
+    if 16384 < n {
+        return nothing(Answer::Refused(29, 0));
+    }
+    if m < n as usize {
+        return nothing(Answer::Refused(29, 0));
+    }
+    if 65535 < cdef.count {
+        return nothing(Answer::Refused(29, 0));
+    }
+    if f.len() < 6 * cdef.count {
+        return nothing(Answer::Refused(29, 0));
+    }
+    if f.len() - 6 * cdef.count < cdef.place {
+        return nothing(Answer::Refused(29, 0));
+    }
+    if n == 0 {
+        return nothing(Answer::Done);
+    }
+    Task {
+        answer: Answer::Done,
+        place: cdef.place,
+        n: n as usize,
+        count: cdef.count,
     }
 }

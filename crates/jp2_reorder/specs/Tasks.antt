@@ -1,0 +1,22 @@
+-- What a run over records is to do once what is handed in has been checked.
+use Prim.Native.Nat.{ℕ, _+_, _*_, _≤_, _<_}
+use mathlib.Core.Path.{_≡_}
+use mathlib.Core.List.{List}
+use lib.ListN.{length}
+use Rattle.jp2_record.specs.declared.Span.{Span}
+use Rattle.jp2_record.specs.declared.Answer.{Answer}
+use Rattle.jp2_cdef.specs.Flat.{answered, afterwards, reordered}
+use Rattle.jp2_reorder.specs.Steps.{list}
+use Rattle.jp2_reorder.specs.declared.Task.{Task}
+
+-- nothing to do
+abbrev pub idle : Answer → Task
+idle a = record { answer = a; place = 0; n = 0; count = 0 }
+
+pub record Tasked (f : List ℕ) (cdef : Span) (m n : ℕ) (r : Task) : Type 0 where
+  pub few : r .n ≤ 16384
+  pub within : r .n ≤ m
+  pub needed : 0 < r .count → 0 < r .n
+  pub in-file : r .place + 6 * r .count ≤ length f
+  pub answers : (l : List ℕ) → length l ≡ 13 * m → r .answer ≡ answered f cdef n l
+  pub leaves : (l : List ℕ) → length l ≡ 13 * m → reordered f (list (r .place) (r .count)) (r .n) l ≡ afterwards f cdef n l
