@@ -154,7 +154,7 @@ fn step(
 
 // Does the definitions of a list at a place of the file, in their order. `numbered` is the list of numbers that jp2_cdef works on: the first n records are as its `reordered` says,
 // record by record, and the rest is as it was.
-pub fn reorder(
+fn reorder(
     cs: &mut [Comp],
     seat: &mut [u32],
     held: &mut [u32],
