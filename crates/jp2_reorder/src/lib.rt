@@ -3,7 +3,7 @@
 ghost use mathlib.Core.Path.{_≡_};
 ghost use Prim.Native.Nat.{ℕ, _+_, _*_, _≤_, _<_};
 ghost use lib.ListN.{getD, length, set};
-ghost use Rattle.jp2_cdef.specs.Flat.{reordered};
+ghost use Rattle.jp2_cdef.specs.Flat.{answered, afterwards, reordered};
 ghost use Rattle.jp2_reorder.specs.Comps.{markOf, none, numbered, swapped};
 ghost use Rattle.jp2_reorder.specs.Steps.{Decided, Seated, Started, Stepped, list};
 ghost use Rattle.jp2_reorder.specs.Tasks.{Tasked, idle};
@@ -174,7 +174,7 @@ fn reorder(
 }
 
 // Numbers every place of a list by itself.
-pub fn begin() -> [u32; 16384]
+fn begin() -> [u32; 16384]
     ensures { λ r. ⌜ (length r ≡ 16384) × ((i : ℕ) → i < 16384 → getD r i 0 ≡ i) ⌝ }
 {
     let mut list = [0u32; 16384];
@@ -206,7 +206,7 @@ fn nothing(answer: Answer) -> Task
 }
 
 // Checks what is handed in: m records, of which n are in the picture.
-pub fn check(f: &[u8], cdef: Span, m: usize, n: u32) -> Task
+fn check(f: &[u8], cdef: Span, m: usize, n: u32) -> Task
     ensures { λ r. ⌜ Tasked (now (f .entry)) cdef m n r ⌝ }
 {
     if 16384 < n {
@@ -233,4 +233,16 @@ pub fn check(f: &[u8], cdef: Span, m: usize, n: u32) -> Task
         n: n as usize,
         count: cdef.count,
     }
+}
+
+// Puts the first n records of cs into the order of the definition list cdef of the file f. The answer, and the records' numbers afterwards, are what jp2_cdef says of them.
+pub fn opj_jp2_apply_cdef(f: &[u8], cdef: Span, cs: &mut [Comp], n: u32) -> Answer
+    ensures { λ r. ⌜ (r ≡ answered (now (f .entry)) cdef n (numbered (now (cs .entry)))) × (numbered (now (cs .exit)) ≡ afterwards (now (f .entry)) cdef n (numbered (now (cs .entry)))) ⌝ }
+{
+    let m = cs.len();
+    let t = check(f, cdef, m, n);
+    let mut seat = begin();
+    let mut held = begin();
+    reorder(cs, &mut seat, &mut held, f, t.place, t.n, t.count);
+    t.answer
 }
