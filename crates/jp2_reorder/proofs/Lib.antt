@@ -3,3 +3,4 @@ pub mod Numbered
 pub mod Deciding
 pub mod Going
 pub mod Checking
+pub mod Agreeing

@@ -1,3 +1,4 @@
 pub mod Comps
 pub mod Steps
 pub mod Tasks
+pub mod Agree
