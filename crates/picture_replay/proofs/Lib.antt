@@ -1,3 +1,1 @@
--- The laws that the proofs of this crate share.
 pub mod Rooms
-pub mod Signs

@@ -3,8 +3,11 @@ use crate::list;
 use crate::put;
 use crate::say;
 
-// The place in the tally of what the picture came to: 31 where it differs, else 0 or the number of the refusal.
+// The place in the tally of what the picture came to: 31 where it differs or the list has ended, else 0 or the number of the refusal.
 pub fn all(picture: &[u8], answer: &[u64], records: &[u32], planes: &[i32]) -> u64 {
+    if picture.len() == 0 {
+        return 31;
+    }
     if !same_answer(picture, answer) {
         return 31;
     }

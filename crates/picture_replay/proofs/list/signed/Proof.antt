@@ -1,12 +1,23 @@
 -- `picture_replay::list::signed` meets its contract.
 -- Assumes nothing.
+use Prim.Native.Nat.{ℕ, _-_, _≤_, _<_}
 use native.Mathlib.Omega.{arith}
-use mathlib.Core.Path.{_∙_}
+use mathlib.Core.Path.{_≡_, _∙_, ap}
+use lib.IntN.{negsuc, _+ℤ_}
+use mir.Syntax.{w32}
+use mir.Val.{toZ, SFits}
 use mir.Facts.{toZ-ofZ}
 use borrow.Author.Needs.{needs}
-use Rattle.picture_replay.proofs.Signs.{high, high-fits}
+use borrow.Author.Tests.{lt-ltb, le-ltb}
 use Rattle.picture_replay.proofs.list.signed.Statement.{statement}
 use Rattle.picture_replay.proofs.list.signed.Tie as tie
+
+-- a number from 2 ^ 31 up
+high : (e : ℕ) → 2147483648 ≤ e → e < 4294967296 → toZ w32 (e - 2147483648) +ℤ negsuc 2147483647 ≡ toZ w32 e
+high e h l = simp (lt-ltb (e - 2147483648) 2147483648 (omega arith), le-ltb e 2147483648 h) (ap negsuc (omega arith))
+
+high-fits : (e : ℕ) → 2147483648 ≤ e → e < 4294967296 → SFits w32 (toZ w32 (e - 2147483648) +ℤ negsuc 2147483647)
+high-fits e h l = rw (high e h l) (simp (le-ltb e 2147483648 h) (record { sfits = omega arith }))
 
 cast-result : tie.Need-cast-result
 cast-result c = search needs
