@@ -8,6 +8,7 @@ mod pictures;
 mod port;
 mod rate;
 mod reading;
+mod writer;
 mod writings;
 
 use arguments::Task;

@@ -10,6 +10,33 @@ pub const UNWRITTEN: u64 = 0xdead_beef_dead_beef;
 /// So many numbers stand behind each list that finishing writes to, and have to stay.
 const BEHIND: usize = 3;
 
+/// How an answer of four numbers differs from the one that is asked for, in words; `unminded` is the length of a list for
+/// the answer that was too short and not left alone.
+pub fn answer_differences(
+    names: [&str; 4],
+    asked: [u64; 4],
+    returned: u32,
+    ours: &[u64],
+    unminded: Option<usize>,
+) -> Vec<String> {
+    let mut found = Vec::new();
+    if let Some(length) = unminded {
+        found.push(format!("a list of {length} for the answer is not minded"));
+    }
+    if returned != 4 {
+        found.push(format!("returned: 4, ours {returned}"));
+    }
+    for ((name, asked), ours) in names.iter().zip(asked).zip(ours) {
+        if asked != *ours {
+            found.push(format!("{name}: asked {asked}, ours {ours}"));
+        }
+    }
+    if ours[4..].iter().any(|number| *number != UNWRITTEN) {
+        found.push("the answer's rest is written".to_owned());
+    }
+    found
+}
+
 /// The answer of reading; none where the port does not write all numbers, or one that no file can give.
 pub fn read(file: &[u8]) -> Option<Numbers> {
     let mut out = [UNWRITTEN; COUNT];

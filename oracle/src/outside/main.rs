@@ -6,27 +6,8 @@
 
 use std::process::ExitCode;
 
-#[link(name = "jp2_export", kind = "static")]
-unsafe extern "C" {
-    /// Writes the boxes before a codestream to `d`, and kind, number, place and the number of bytes to `answer`.
-    fn cuzhantir_write(
-        comps: *const u32,
-        comps_len: usize,
-        count: u32,
-        x0: u32,
-        y0: u32,
-        x1: u32,
-        y1: u32,
-        space: u32,
-        profile: *const u8,
-        profile_len: usize,
-        codestream: u64,
-        d: *mut u8,
-        d_len: usize,
-        answer: *mut u64,
-        answer_len: usize,
-    ) -> u32;
-}
+#[path = "../compare/writer.rs"]
+mod writer;
 
 /// What all boxes but the profile take, at most, for as many components as fit on a command line.
 const ROOM: usize = 1 << 20;
@@ -110,26 +91,15 @@ fn write(
     let numbers = components.concat();
     let mut bytes = vec![0; ROOM + profile.len()];
     let mut answer = [0u64; 4];
-    // The pointers and lengths are those of lists that live until the call is over.
-    unsafe {
-        cuzhantir_write(
-            numbers.as_ptr(),
-            numbers.len(),
-            components.len() as u32,
-            0,
-            0,
-            corner[0],
-            corner[1],
-            space,
-            profile.as_ptr(),
-            profile.len(),
-            codestream as u64,
-            bytes.as_mut_ptr(),
-            bytes.len(),
-            answer.as_mut_ptr(),
-            answer.len(),
-        )
+    let request = writer::Request {
+        components: &numbers,
+        count: components.len() as u32,
+        corners: [0, 0, corner[0], corner[1]],
+        space,
+        profile: &profile,
+        codestream: codestream as u64,
     };
+    writer::write(&request, &mut bytes, &mut answer);
     let [kind, number, place, count] = answer;
     if kind != 0 {
         return Err(format!("refused with {number}, {place}"));

@@ -2,6 +2,7 @@
 
 mod arguments;
 mod choice;
+mod outcomes;
 mod pictures;
 mod writings;
 

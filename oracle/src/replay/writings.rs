@@ -1,5 +1,6 @@
 //! The list of writings: which go into it, and how it is written.
 
+use crate::outcomes;
 use oracle::generate::{
     corners, depths, large_writings, mark_patterns, writing_edges, wrong_together, Writings,
 };
@@ -100,23 +101,12 @@ impl WritingChoice {
 
     /// How many writings of each outcome there are, and how many of these are of the seed.
     pub fn print(&self) {
-        let mut all = BTreeMap::<u64, usize>::new();
-        for (_, answer) in &self.cases {
-            *all.entry(answer.number).or_default() += 1;
-        }
-        for (number, count) in &all {
-            let taken = self
-                .taken
-                .iter()
-                .filter(|(outcome, _)| outcome.0 == *number);
-            let generated: usize = taken.map(|(_, taken)| taken).sum();
-            match number {
-                0 => println!("{count:>6} written, {generated} of the seed"),
-                _ => println!("{count:>6} refused with {number}, {generated} of the seed"),
-            }
-        }
-        let generated: usize = self.taken.values().sum();
-        println!("{:>6} writings, {generated} of the seed", self.cases.len());
+        outcomes::print(
+            self.cases.iter().map(|(_, answer)| answer.number),
+            self.taken.iter().map(|(outcome, taken)| (outcome.0, *taken)),
+            "written",
+            "writings",
+        );
     }
 }
 

@@ -38,24 +38,13 @@ impl Checked for CheckedPicture {
             Ok(asked) => asked,
             Err(why) => return vec![format!("no answer of document 01: {why}")],
         };
-        let mut found = Vec::new();
-        if let Some(length) = self.unminded {
-            found.push(format!("a list of {length} for the answer is not minded"));
-        }
-        if self.ours.returned != 4 {
-            found.push(format!("returned: 4, ours {}", self.ours.returned));
-        }
-        let answer = [asked.kind, asked.number, asked.place, asked.count];
-        let names = ["kind", "number", "place", "planes"];
-        for ((name, asked), ours) in names.iter().zip(answer).zip(&self.ours.answer) {
-            if asked != *ours {
-                found.push(format!("{name}: asked {asked}, ours {ours}"));
-            }
-        }
-        let rest = &self.ours.answer[4..];
-        if rest.iter().any(|number| *number != ours::UNWRITTEN) {
-            found.push("the answer's rest is written".to_owned());
-        }
+        let mut found = ours::answer_differences(
+            ["kind", "number", "place", "planes"],
+            [asked.kind, asked.number, asked.place, asked.count],
+            self.ours.returned,
+            &self.ours.answer,
+            self.unminded,
+        );
         let untouched = ours::record_pattern;
         found.extend(list(
             "record number",

@@ -33,23 +33,13 @@ impl Checked {
             Ok(asked) => asked,
             Err(why) => return vec![format!("no answer of document 01: {why}")],
         };
-        let mut found = Vec::new();
-        if let Some(length) = self.unminded {
-            found.push(format!("a list of {length} for the answer is not minded"));
-        }
-        if self.ours.returned != 4 {
-            found.push(format!("returned: 4, ours {}", self.ours.returned));
-        }
-        let names = ["kind", "number", "place", "bytes"];
-        for ((name, asked), ours) in names.iter().zip(asked.numbers()).zip(&self.ours.answer) {
-            if asked != *ours {
-                found.push(format!("{name}: asked {asked}, ours {ours}"));
-            }
-        }
-        let rest = &self.ours.answer[4..];
-        if rest.iter().any(|number| *number != ours::UNWRITTEN) {
-            found.push("the answer's rest is written".to_owned());
-        }
+        let mut found = crate::ours::answer_differences(
+            ["kind", "number", "place", "bytes"],
+            asked.numbers(),
+            self.ours.returned,
+            &self.ours.answer,
+            self.unminded,
+        );
         found.extend(destination(&asked.bytes, &self.ours.bytes));
         found
     }

@@ -1,32 +1,8 @@
 //! The port's writing, as its static library gives it.
 
+use crate::ours::UNWRITTEN;
+use crate::writer::{self, Request};
 use oracle::written::Handed;
-
-#[link(name = "jp2_export", kind = "static")]
-unsafe extern "C" {
-    /// Writes the boxes before a codestream to `d`, and kind, number, place and the number of bytes to `answer`. Answers
-    /// 4, or 0 where `answer` is too short.
-    fn cuzhantir_write(
-        comps: *const u32,
-        comps_len: usize,
-        count: u32,
-        x0: u32,
-        y0: u32,
-        x1: u32,
-        y1: u32,
-        space: u32,
-        profile: *const u8,
-        profile_len: usize,
-        codestream: u64,
-        d: *mut u8,
-        d_len: usize,
-        answer: *mut u64,
-        answer_len: usize,
-    ) -> u32;
-}
-
-/// What stands where the port has written no number of an answer; no answer has it.
-pub const UNWRITTEN: u64 = 0xdead_beef_dead_beef;
 
 /// So much stands behind each list that the port writes to, and has to stay.
 const BEHIND: usize = 16;
@@ -51,26 +27,19 @@ pub fn write(handed: &Handed, length: usize) -> Written {
         answer: vec![UNWRITTEN; length + BEHIND],
         bytes: (0..handed.room + BEHIND).map(pattern).collect(),
     };
-    // The pointers are those of lists that live until the call is over; the lengths are no greater than theirs.
-    written.returned = unsafe {
-        cuzhantir_write(
-            handed.components.as_ptr(),
-            handed.components.len(),
-            handed.count,
-            handed.x0,
-            handed.y0,
-            handed.x1,
-            handed.y1,
-            handed.space,
-            handed.profile.as_ptr(),
-            handed.profile.len(),
-            handed.codestream,
-            written.bytes.as_mut_ptr(),
-            handed.room,
-            written.answer.as_mut_ptr(),
-            length,
-        )
+    let request = Request {
+        components: &handed.components,
+        count: handed.count,
+        corners: [handed.x0, handed.y0, handed.x1, handed.y1],
+        space: handed.space,
+        profile: &handed.profile,
+        codestream: handed.codestream,
     };
+    written.returned = writer::write(
+        &request,
+        &mut written.bytes[..handed.room],
+        &mut written.answer[..length],
+    );
     written
 }
 

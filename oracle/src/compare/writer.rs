@@ -1,0 +1,59 @@
+//! The port's writing, for lists. The comparison and the program behind `oracle/outside` both include this file.
+
+#[link(name = "jp2_export", kind = "static")]
+unsafe extern "C" {
+    fn cuzhantir_write(
+        comps: *const u32,
+        comps_len: usize,
+        count: u32,
+        x0: u32,
+        y0: u32,
+        x1: u32,
+        y1: u32,
+        space: u32,
+        profile: *const u8,
+        profile_len: usize,
+        codestream: u64,
+        d: *mut u8,
+        d_len: usize,
+        answer: *mut u64,
+        answer_len: usize,
+    ) -> u32;
+}
+
+/// What is handed in, apart from the lists that are written to.
+pub struct Request<'a> {
+    pub components: &'a [u32],
+    pub count: u32,
+    /// x0, y0, x1, y1.
+    pub corners: [u32; 4],
+    pub space: u32,
+    pub profile: &'a [u8],
+    pub codestream: u64,
+}
+
+/// Writes the boxes before a codestream to `d`, and kind, number, place and the number of bytes to `answer`. Answers 4,
+/// or 0 where `answer` is too short.
+pub fn write(request: &Request, d: &mut [u8], answer: &mut [u64]) -> u32 {
+    let [x0, y0, x1, y1] = request.corners;
+    // The pointers and lengths are those of slices that live until the call is over.
+    unsafe {
+        cuzhantir_write(
+            request.components.as_ptr(),
+            request.components.len(),
+            request.count,
+            x0,
+            y0,
+            x1,
+            y1,
+            request.space,
+            request.profile.as_ptr(),
+            request.profile.len(),
+            request.codestream,
+            d.as_mut_ptr(),
+            d.len(),
+            answer.as_mut_ptr(),
+            answer.len(),
+        )
+    }
+}
