@@ -2,7 +2,8 @@
 ghost use mathlib.Core.Path.{_≡_};
 ghost use lib.ListN.{length};
 ghost use Rattle.jp2_written.specs.Writing.{write, destination};
-ghost use Rattle.jp2_write.specs.Answers.{asked, answered};
+ghost use Rattle.jp2_written.specs.Request.{asked};
+ghost use Rattle.jp2_write.specs.Answers.{answered};
 ghost use Rattle.jp2_back.specs.Back.{bytesOf, readingOf, ComesBack};
 use jp2_file::Reading;
 use jp2_write::Written;

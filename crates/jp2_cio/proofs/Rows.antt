@@ -26,13 +26,18 @@ Says false (s and t) = Says true s → Says false t
 pub true-false : {X : Type 0} → true ≡ false → X
 true-false e = let z : _≡_ {A = ℕ} 0 1 = cc in absurd (omega arith)
 
-not-both : (t : Test) → Says true t → Says false t → ⊥
+-- a test does not both hold and fail
+pub not-both : (t : Test) → Says true t → Says false t → ⊥
 not-both (m =? n) h f = f h
 not-both (m ≠? n) h f = h f
 not-both (m <? n) h f = omega arith
 not-both (flag b) h f = true-false (cc)
 not-both (s or t) h f = not-both t (h (f .0)) (f .1)
 not-both (s and t) h f = not-both t (h .1) (f (h .0))
+
+-- the first of two tests suffices
+pub or-first : (s t : Test) → Says true s → Says true (s or t)
+or-first s t h = λ g. absurd (not-both s h g)
 
 pub either : {X : Type 0} (b : Bool) → (b ≡ true → X) → (b ≡ false → X) → X
 either true f g = f refl

@@ -8,7 +8,7 @@ ghost use Rattle.jp2_file.specs.File.{read, reading};
 ghost use Rattle.jp2_finish.specs.Answers.{answered, fronted, recordsAfter, samplesAfter};
 ghost use Rattle.jp2_whole.specs.Whole.{handed, pictured};
 ghost use Rattle.jp2_written.specs.Writing.{write, destination};
-ghost use Rattle.jp2_write.specs.Answers.{asked};
+ghost use Rattle.jp2_written.specs.Request.{asked};
 ghost use Rattle.jp2_write.specs.Answers as written;
 ghost use Rattle.jp2_export.specs.Picture.{told, room};
 ghost use Rattle.jp2_export.specs.Writing.{toldWritten};

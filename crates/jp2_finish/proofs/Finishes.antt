@@ -6,8 +6,8 @@ use mathlib.Core.Path.{_≡_, refl, sym, ap, subst, _∙_}
 use mathlib.Core.Bool.{Bool, true, false}
 use mathlib.Core.List.{List}
 use lib.IntN.{ℤ}
-use Rattle.jp2_cio.specs.Table.{Test, _<?_, _or_, _and_, otherwise, _⇒_∣_, holds, table}
-use Rattle.jp2_cio.proofs.Rows.{Says, true-false, shown, row, each}
+use Rattle.jp2_cio.specs.Table.{_<?_, _or_, _and_, holds, table}
+use Rattle.jp2_cio.proofs.Rows.{Says, not-both, shown, row, each}
 use Rattle.jp2_record.specs.declared.Jp2.{Jp2}
 use Rattle.jp2_picture.specs.Image.{Image}
 use Rattle.jp2_picture.specs.Channels.{lowest, mapped, channels, corrected}
@@ -20,10 +20,6 @@ use Rattle.jp2_check.specs.Checked.{checked}
 use Rattle.jp2_finish.specs.declared.Finished.{Finished}
 use Rattle.jp2_finish.specs.Answers.{answered, recordsAfter, samplesAfter}
 use Rattle.jp2_finish.specs.Parts.{Tested, room, Done}
-
--- a test does not both hold and fail
-never : {X : Type 0} (t : Test) → Says true t → Says false t → X
-never t h g = true-false (row 0 (t ⇒ true ∣ otherwise false) h refl ∙ sym (row 1 (t ⇒ true ∣ otherwise false) (g, tt) refl))
 
 -- what the checks tell of the table of finishing
 abbrev Told : List ℕ → Jp2 → Image → Finishing → ℕ → ℕ → Checked → Type 0
@@ -64,7 +60,7 @@ module _ (f : List ℕ) (m : Jp2) (i : Image) (records samples : ℕ) where
   unfolding checked
   checks-tell few file =
       each (Told f m i x records samples) _ (
-        (λ h. never (16384 <? i .count or outsideFile f m) h (few, file)),
+        (λ h. absurd (not-both (16384 <? i .count or outsideFile f m) h (few, file))),
         λ _. (
           told-25,
           λ named. (told-26 named, λ defined. (told-27 named defined, λ mapping. (rest named defined mapping, lowest-none _ _ mapping, refl))),

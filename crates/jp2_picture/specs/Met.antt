@@ -5,7 +5,7 @@ use mathlib.Core.List.{List, [], _∷_, _++_}
 use lib.IntN.{ℤ, pos}
 use Rattle.jp2_record.specs.declared.Jp2.{Jp2}
 use Rattle.jp2_marked.specs.Files.{two, box, ihdrBox, picture as fileOf}
-use Rattle.jp2_picture.specs.Image.{Image}
+use Rattle.jp2_picture.specs.Image.{Image, image}
 use Rattle.jp2_picture.specs.Words.{Handed, Accepted, Defined, Clear}
 use Rattle.jp2_picture.specs.OrderFreedom.{AlikeButOrder}
 
@@ -29,9 +29,6 @@ cdefBox definitions = box 0x63646566 (two 3 ++ definitions)
 -- a component of a width, 1 high and of 8 bits, with its first sample at an index
 abbrev pub plane : ℕ → ℕ → List ℕ
 plane wide start = 1 ∷ 1 ∷ wide ∷ 1 ∷ 0 ∷ 0 ∷ 8 ∷ 8 ∷ 0 ∷ 0 ∷ 0 ∷ start ∷ 0 ∷ []
-
-abbrev pub image : List ℕ → ℕ → List ℤ → Image
-image components count samples = record { components = components; count = count; samples = samples }
 
 -- with the file and the image, and room for three planes and their samples
 abbrev pub handed : List ℕ → Image → ℕ → Handed

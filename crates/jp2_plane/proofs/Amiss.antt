@@ -6,8 +6,8 @@ use mathlib.Core.Bool.{Bool, true, false, not}
 use mathlib.Core.List.{List}
 use lib.IntN.{ℤ}
 use borrow.Author.Tests.{not-true, not-false, eq-eqb, ne-eqb}
-use Rattle.jp2_cio.specs.Table.{Test, _=?_, _or_, _and_, otherwise, _⇒_∣_, holds, table}
-use Rattle.jp2_cio.proofs.Rows.{Says, true-false, row, each}
+use Rattle.jp2_cio.specs.Table.{Test, _=?_, _or_, _and_, holds, table}
+use Rattle.jp2_cio.proofs.Rows.{Says, true-false, each}
 use Rattle.jp2_plane.specs.Plane.{done, put}
 
 -- what a refusal, or its absence, tells of what is amiss
@@ -18,10 +18,6 @@ done-true t {b} e f = each (λ b. b ≡ true → Says false t) _ ((λ h g. true-
 pub done-false : (t : Test) {b : Bool} → b ≡ done t → not b ≡ true → Says true t
 unfolding done
 done-false t {b} e f = each (λ b. b ≡ false → Says true t) _ ((λ h g. h), λ h g. true-false g) (sym e ∙ not-true b f)
-
--- the first of two tests suffices
-pub or-first : (s t : Test) → Says true s → Says true (s or t)
-or-first s t h = λ g. true-false (row 1 (s ⇒ false ∣ otherwise true) (g, tt) refl ∙ sym (row 0 (s ⇒ false ∣ otherwise true) h refl))
 
 -- a test that is made for type 1 only
 type-1 : (typ : ℕ) (s t : Test) → typ ≡ 1 → holds (s or t) ≡ holds (typ =? 1 and s or t)

@@ -4,7 +4,7 @@ use mathlib.Core.List.{List}
 use lib.ListN.{length}
 use Rattle.jp2_cio.specs.Table.{_=?_, _<?_, _or_, otherwise, _⇒_∣_, table}
 use Rattle.jp2_picture.specs.Channels.{lowest}
-use Rattle.jp2_written.specs.Request.{Request}
+use Rattle.jp2_written.specs.Request.{Request, asked}
 use Rattle.jp2_written.specs.Setup.{HEIGHT, WIDTH, NC, BPC, METH, EnumCS, colours, N}
 use Rattle.jp2_written.specs.Writing.{ill}
 use Rattle.jp2_setup.specs.declared.Fields.{Fields}
@@ -13,8 +13,7 @@ use Rattle.jp2_setup.specs.declared.Encoder.the-variants.{Ready, Refused
 
 -- a request of which the codestream's length and the room are not looked at
 abbrev pub request : List ℕ → ℕ → ℕ → ℕ → ℕ → ℕ → ℕ → List ℕ → Request
-request comps count x0 y0 x1 y1 space profile =
-    record { components = comps; count = count; x0 = x0; y0 = y0; x1 = x1; y1 = y1; space = space; profile = profile; codestream = 0; room = 0 }
+request comps count x0 y0 x1 y1 space profile = asked comps count x0 y0 x1 y1 space profile 0 0
 
 unfoldable pub fields : Request → Fields
 fields r = record { h = HEIGHT r; w = WIDTH r; numcomps = NC r; bpc = BPC r; meth = METH r; enumcs = EnumCS r; colours = colours r; definitions = N r }

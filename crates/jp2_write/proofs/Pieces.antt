@@ -3,7 +3,7 @@
 use Prim.Native.Nat.{ℕ, _+_, _≤_}
 use native.Mathlib.Omega.{arith}
 use mathlib.Core.Path.{_≡_, refl, sym, ap, ap₂, _∙_}
-use mathlib.Core.List.{List, [], _++_}
+use mathlib.Core.List.{List, [], _++_, append-assoc}
 use lib.ListN.{length, length-append}
 use Rattle.jp2_cio.specs.Number.{bytes, placed}
 use Rattle.jp2_cio.proofs.Bytes.{length-bytes, placed-none, length-placed, placed-then}
@@ -60,3 +60,7 @@ length-header type n = simp (length-append, length-bytes)
 pub box-is : (type : ℕ) {n : ℕ} (content : List ℕ) → n ≡ length content → boxHeader type n ++ content ≡ box type content
 unfolding box
 box-is type content e = ap (λ k. boxHeader type k ++ content) e
+
+-- a header before four pieces of content
+pub regrouped : (h a b c d : List ℕ) → h ++ a ++ b ++ c ++ d ≡ h ++ (a ++ b ++ c ++ d)
+regrouped h a b c d = simp append-assoc

@@ -10,7 +10,7 @@ use Rattle.jp2_cio.specs.Table.{_=?_, _<?_, _or_, table}
 use Rattle.jp2_cio.proofs.Rows.{Says, shown, row, each}
 use Rattle.jp2_picture.specs.Channels.{lowest}
 use Rattle.jp2_picture.proofs.Indices.{lowest-none}
-use Rattle.jp2_written.specs.Request.{Request}
+use Rattle.jp2_written.specs.Request.{Request, asked}
 use Rattle.jp2_written.specs.Setup.{BPCi, BPC, METH, EnumCS, colours, marks, N, definition}
 use Rattle.jp2_written.specs.Bpcc.{bpcc}
 use Rattle.jp2_written.specs.Colr.{specification}
@@ -21,7 +21,6 @@ use Rattle.jp2_setup.specs.declared.Encoder.{Encoder}
 use Rattle.jp2_setup.specs.declared.Encoder.the-variants.{Ready, Refused}
 use Rattle.jp2_setup.specs.Encoder.{request, fields, setUp}
 use Rattle.jp2_setup.specs.Parts.{listed}
-use Rattle.jp2_write.specs.Answers.{asked}
 use Rattle.jp2_write.specs.Parts.{bpccOf, specificationOf, definitionOf, cdefOf, frontOf, Sound, ready}
 
 module _ (comps : List ℕ) (count x0 y0 x1 y1 space : ℕ) (profile : List ℕ) (codestream room : ℕ) where

@@ -17,6 +17,10 @@ pub record Request : Type 0 where
   pub codestream : ℕ
   pub room : ℕ
 
+abbrev pub asked : List ℕ → ℕ → ℕ → ℕ → ℕ → ℕ → ℕ → List ℕ → ℕ → ℕ → Request
+asked comps count x0 y0 x1 y1 space profile codestream room =
+    record { components = comps; count = count; x0 = x0; y0 = y0; x1 = x1; y1 = y1; space = space; profile = profile; codestream = codestream; room = room }
+
 -- number k of component c, in the order of the crate's opj_image_comp: dx, dy, w, h, x0, y0, prec, bpp, sgnd, resno_decoded, factor, data, alpha
 abbrev pub component : Request → ℕ → ℕ → ℕ
 component r c k = getD (r .components) (13 * c + k) 0

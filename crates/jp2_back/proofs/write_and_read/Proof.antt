@@ -3,7 +3,7 @@
 use native.Mathlib.Omega.{arith}
 use mathlib.Core.Path.{_≡_}
 use lib.ListN.{length}
-use Rattle.jp2_write.specs.Answers.{asked}
+use Rattle.jp2_written.specs.Request.{asked}
 use Rattle.jp2_back.proofs.Backs.{part-is, comes-back}
 use borrow.Author.Needs.{needs}
 use Rattle.jp2_back.proofs.write_and_read.Statement.{statement}

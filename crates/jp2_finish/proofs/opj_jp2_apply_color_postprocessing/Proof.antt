@@ -8,7 +8,7 @@ use lib.ListN.{length}
 use Rattle.jp2_picture.specs.Image.{image}
 use Rattle.jp2_picture.specs.Finish.{outsideLists, outsideFile, finish}
 use Rattle.jp2_comps.proofs.Answers.{said}
-use Rattle.jp2_plane.proofs.Amiss.{or-first}
+use Rattle.jp2_cio.proofs.Rows.{or-first}
 use Rattle.jp2_finish.proofs.Colours.{declined-done}
 use Rattle.jp2_finish.proofs.Finishes.{finish-29, entry-refused, entry-tested, entry-flags, entry-on, done-as}
 use Rattle.jp2_finish.proofs.opj_jp2_apply_color_postprocessing.Statement.{statement}

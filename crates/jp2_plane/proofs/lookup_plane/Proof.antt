@@ -5,9 +5,9 @@ use mathlib.Core.Path.{refl}
 use mathlib.Core.Bool.{false}
 use lib.IntN.{pos}
 use lib.ListN.{replicate}
-use Rattle.jp2_cio.proofs.Rows.{Says, row}
+use Rattle.jp2_cio.proofs.Rows.{or-first, Says, row}
 use Rattle.jp2_plane.specs.Plane.{plane, outside, noColumn, done, put}
-use Rattle.jp2_plane.proofs.Amiss.{done-true, done-false, or-first}
+use Rattle.jp2_plane.proofs.Amiss.{done-true, done-false}
 use Rattle.jp2_plane.proofs.Columns.{placed-looked}
 use borrow.Author.Needs.{needs}
 use Rattle.jp2_plane.proofs.lookup_plane.Statement.{statement}

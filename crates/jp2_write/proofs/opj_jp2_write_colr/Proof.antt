@@ -1,21 +1,18 @@
 -- `jp2_write::opj_jp2_write_colr` meets its contract.
 -- Assumes nothing.
-use Prim.Native.Nat.{ℕ, _+_, _-_}
+use Prim.Native.Nat.{_+_, _-_}
 use native.Mathlib.Omega.{arith}
 use mathlib.Core.Path.{_≡_, refl, sym, ap, _∙_}
-use mathlib.Core.List.{List, _++_, append-assoc}
+use mathlib.Core.List.{_++_}
 use lib.ListN.{length}
 use Rattle.jp2_cio.specs.Number.{bytes}
 use Rattle.jp2_written.specs.Box.{boxHeader}
 use Rattle.jp2_write.specs.Parts.{specificationOf, colrOf}
-use Rattle.jp2_write.proofs.Pieces.{length-header, box-is, first, field, piece, whole}
+use Rattle.jp2_write.proofs.Pieces.{regrouped, length-header, box-is, first, field, piece, whole}
 use Rattle.jp2_write.proofs.Lengths.{specification-length, content-length, colr-most}
 use borrow.Author.Needs.{needs}
 use Rattle.jp2_write.proofs.opj_jp2_write_colr.Statement.{statement}
 use Rattle.jp2_write.proofs.opj_jp2_write_colr.Tie as tie
-
-assoc : (h a b c d : List ℕ) → h ++ a ++ b ++ c ++ d ≡ h ++ (a ++ b ++ c ++ d)
-assoc h a b c d = simp append-assoc
 
 cast-colr-length : tie.Need-cast-colr-length
 cast-colr-length c = search needs
@@ -61,7 +58,7 @@ returns c =
     let content = bytes 1 (a .s .meth) ++ bytes 1 0 ++ bytes 1 0 ++ xs in
     let w =
     whole d (a .at) (boxHeader 0x636f6c72 (n - 8) ++ bytes 1 (a .s .meth) ++ bytes 1 0 ++ bytes 1 0 ++ xs) (colrOf (a .s) (a .profile .now)) (11 + length xs) p4
-    (assoc (boxHeader 0x636f6c72 (n - 8)) (bytes 1 (a .s .meth)) (bytes 1 0) (bytes 1 0) xs ∙ box-is 0x636f6c72 content (omega (arith, content-length (a .s) (a .profile .now))))
+    (regrouped (boxHeader 0x636f6c72 (n - 8)) (bytes 1 (a .s .meth)) (bytes 1 0) (bytes 1 0) xs ∙ box-is 0x636f6c72 content (omega (arith, content-length (a .s) (a .profile .now))))
     in
     (w .0 ∙ ap (λ k. a .at + k) (sym long), w .1)
 

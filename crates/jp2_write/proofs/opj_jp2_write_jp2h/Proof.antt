@@ -1,20 +1,17 @@
 -- `jp2_write::opj_jp2_write_jp2h` meets its contract.
 -- Assumes nothing.
-use Prim.Native.Nat.{ℕ, _+_}
+use Prim.Native.Nat.{_+_}
 use native.Mathlib.Omega.{arith}
 use mathlib.Core.Path.{_≡_, refl, sym, ap, _∙_}
-use mathlib.Core.List.{List, _++_, append-assoc}
+use mathlib.Core.List.{_++_}
 use lib.ListN.{length}
 use Rattle.jp2_written.specs.Box.{boxHeader}
 use Rattle.jp2_write.specs.Parts.{ihdrOf, bpccOf, colrOf, cdefOf, jp2hOf, bpccLength, colrLength, cdefLength}
-use Rattle.jp2_write.proofs.Pieces.{length-header, box-is, first, piece, whole}
+use Rattle.jp2_write.proofs.Pieces.{regrouped, length-header, box-is, first, piece, whole}
 use Rattle.jp2_write.proofs.Lengths.{ihdr-length, bpcc-length, colr-length, cdef-length, jp2h-length}
 use borrow.Author.Needs.{needs}
 use Rattle.jp2_write.proofs.opj_jp2_write_jp2h.Statement.{statement}
 use Rattle.jp2_write.proofs.opj_jp2_write_jp2h.Tie as tie
-
-assoc : (h a b c d : List ℕ) → h ++ a ++ b ++ c ++ d ≡ h ++ (a ++ b ++ c ++ d)
-assoc h a b c d = simp append-assoc
 
 cast-jp2h-length : tie.Need-cast-jp2h-length
 cast-jp2h-length c = search needs
@@ -59,7 +56,7 @@ returns c =
     let p4 = piece d (a .at) (boxHeader 0x6a703268 n ++ x1 ++ x2 ++ x3) (30 + l2 + l3) p3 x4 (cdefLength (a .s)) (cdef-length (a .s) (a .comps .now)) (omega (arith, b .pre .0)) (c .before .before .opj-jp2-write-cdef .ensures) in
     let w =
     whole d (a .at) (boxHeader 0x6a703268 n ++ x1 ++ x2 ++ x3 ++ x4) (jp2hOf (a .comps .now) (a .s) (a .profile .now)) (30 + l2 + l3 + cdefLength (a .s)) p4
-    (assoc (boxHeader 0x6a703268 n) x1 x2 x3 x4 ∙ box-is 0x6a703268 (x1 ++ x2 ++ x3 ++ x4) (c .before .before .before .before .before .before .before .before .before .before .before .before .before .before .before .before .before .before .before .jp2h-length .ensures .0 ∙ sym (jp2h-length (a .s) (a .comps .now) (a .profile .now))))
+    (regrouped (boxHeader 0x6a703268 n) x1 x2 x3 x4 ∙ box-is 0x6a703268 (x1 ++ x2 ++ x3 ++ x4) (c .before .before .before .before .before .before .before .before .before .before .before .before .before .before .before .before .before .before .before .jp2h-length .ensures .0 ∙ sym (jp2h-length (a .s) (a .comps .now) (a .profile .now))))
     in
     (omega (arith, w .0), w .1)
 
