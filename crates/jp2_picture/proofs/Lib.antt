@@ -12,3 +12,4 @@ pub mod Orders
 pub mod Distinct
 pub mod Mets
 pub mod Demand3
+pub mod Telling
