@@ -1,84 +1,87 @@
--- An answer and its record as a list of numbers, for callers that take numbers alone.
+-- An answer of reading and its record as a list of numbers, for callers that take numbers alone.
 use Prim.Native.Nat.{ℕ}
 use mathlib.Core.List.{List, [], _∷_, _++_}
-use lib.ListN.{length, getD, drop}
-use Rattle.jp2_cio.specs.Table.{Test, _<?_, Rows, otherwise, _⇒_∣_, table}
+use lib.ListN.{getD}
+use Rattle.jp2_record.specs.declared.Image.{Image}
+use Rattle.jp2_record.specs.declared.Colour.{Colour}
+use Rattle.jp2_record.specs.declared.FileType.{FileType}
+use Rattle.jp2_record.specs.declared.Lists.{Lists}
+use Rattle.jp2_record.specs.declared.Status.{Status}
 use Rattle.jp2_record.specs.declared.Jp2.{Jp2}
 use Rattle.jp2_file.specs.declared.FileAnswer.{FileAnswer}
 use Rattle.jp2_file.specs.declared.FileAnswer.the-variants.{Codestream, Ended, Refused}
 use Rattle.jp2_file.specs.declared.Reading.{Reading}
 
--- 0 for the codestream, 1 for "ended", 2 for a refusal
-abbrev pub kind : FileAnswer → ℕ
-kind (Codestream offset) = 0
-kind Ended = 1
-kind (Refused number p) = 2
+-- 0 to 2: 0 and the codestream's offset; 1 for "ended"; 2, document 01's number and the place
+abbrev pub ofAnswer : FileAnswer → List ℕ
+ofAnswer (Codestream offset) = 0 ∷ offset ∷ 0 ∷ []
+ofAnswer Ended = 1 ∷ 0 ∷ 0 ∷ []
+ofAnswer (Refused number place) = 2 ∷ number ∷ place ∷ []
 
--- the codestream's offset, or document 01's number
-abbrev pub value : FileAnswer → ℕ
-value (Codestream offset) = offset
-value Ended = 0
-value (Refused number p) = number
+-- the number of a refusal, 0 for any other answer
+abbrev pub number : FileAnswer → ℕ
+number (Codestream offset) = 0
+number Ended = 0
+number (Refused n place) = n
 
-abbrev pub place : FileAnswer → ℕ
-place (Codestream offset) = 0
-place Ended = 0
-place (Refused number p) = p
+-- 3 to 9
+abbrev pub ofImage : Image → List ℕ
+ofImage i = i .h ∷ i .w ∷ i .numcomps ∷ i .bpc ∷ i .c ∷ i .unkc ∷ i .ipr ∷ []
 
--- the 41 numbers of the record
-abbrev pub fields : Jp2 → List ℕ
-fields j =
-    j .image .h ∷
-    j .image .w ∷
-    j .image .numcomps ∷
-    j .image .bpc ∷
-    j .image .c ∷
-    j .image .unkc ∷
-    j .image .ipr ∷
-    j .colour .meth ∷
-    j .colour .precedence ∷
-    j .colour .approx ∷
-    j .colour .enumcs ∷
-    getD (j .colour .lab .numbers) 0 0 ∷
-    getD (j .colour .lab .numbers) 1 0 ∷
-    getD (j .colour .lab .numbers) 2 0 ∷
-    getD (j .colour .lab .numbers) 3 0 ∷
-    getD (j .colour .lab .numbers) 4 0 ∷
-    getD (j .colour .lab .numbers) 5 0 ∷
-    getD (j .colour .lab .numbers) 6 0 ∷
-    getD (j .colour .lab .numbers) 7 0 ∷
-    getD (j .colour .lab .numbers) 8 0 ∷
-    j .colour .lab .count ∷
-    j .colour .held ∷
-    j .filetype .brand ∷
-    j .filetype .minversion ∷
-    j .lists .cl .place ∷
-    j .lists .cl .count ∷
-    j .lists .bpcc .place ∷
-    j .lists .bpcc .count ∷
-    j .lists .icc .place ∷
-    j .lists .icc .count ∷
-    j .lists .pclr .place ∷
-    j .lists .pclr .entries ∷
-    j .lists .pclr .columns ∷
-    j .lists .cmap .place ∷
-    j .lists .cmap .count ∷
-    j .lists .cdef .place ∷
-    j .lists .cdef .count ∷
-    j .status .state ∷
-    j .status .imgstate ∷
-    j .status .hasjp2h ∷
-    j .status .hasihdr ∷
+-- 10 to 24; the nine numbers of CIELab are 14 to 22
+abbrev pub ofColour : Colour → List ℕ
+ofColour c =
+    c .meth ∷
+    c .precedence ∷
+    c .approx ∷
+    c .enumcs ∷
+    getD (c .lab .numbers) 0 0 ∷
+    getD (c .lab .numbers) 1 0 ∷
+    getD (c .lab .numbers) 2 0 ∷
+    getD (c .lab .numbers) 3 0 ∷
+    getD (c .lab .numbers) 4 0 ∷
+    getD (c .lab .numbers) 5 0 ∷
+    getD (c .lab .numbers) 6 0 ∷
+    getD (c .lab .numbers) 7 0 ∷
+    getD (c .lab .numbers) 8 0 ∷
+    c .lab .count ∷
+    c .held ∷
     []
 
--- the answer and its record
+-- 25 and 26
+abbrev pub ofFileType : FileType → List ℕ
+ofFileType t = t .brand ∷ t .minversion ∷ []
+
+-- 27 to 39
+abbrev pub ofLists : Lists → List ℕ
+ofLists l =
+    l .cl .place ∷
+    l .cl .count ∷
+    l .bpcc .place ∷
+    l .bpcc .count ∷
+    l .icc .place ∷
+    l .icc .count ∷
+    l .pclr .place ∷
+    l .pclr .entries ∷
+    l .pclr .columns ∷
+    l .cmap .place ∷
+    l .cmap .count ∷
+    l .cdef .place ∷
+    l .cdef .count ∷
+    []
+
+-- 40 to 43
+abbrev pub ofStatus : Status → List ℕ
+ofStatus s = s .state ∷ s .imgstate ∷ s .hasjp2h ∷ s .hasihdr ∷ []
+
+-- 0 to 24
+abbrev pub firstNumbers : Reading → List ℕ
+firstNumbers r = ofAnswer (r .answer) ++ ofImage (r .jp2 .image) ++ ofColour (r .jp2 .colour)
+
+-- 25 to 43
+abbrev pub lastNumbers : Jp2 → List ℕ
+lastNumbers j = ofFileType (j .filetype) ++ ofLists (j .lists) ++ ofStatus (j .status)
+
+-- all 44
 abbrev pub numbers : Reading → List ℕ
-numbers r = kind (r .answer) ∷ value (r .answer) ∷ place (r .answer) ∷ fields (r .jp2)
-
--- how many numbers were given to a list d: all 44, or none where it is shorter
-unfoldable pub given : List ℕ → ℕ
-given d = table (length d <? 44 ⇒ 0 ∣ otherwise 44)
-
--- d with the numbers of a reading; what is beyond them stays
-unfoldable pub filled : List ℕ → Reading → List ℕ
-filled d r = table (length d <? 44 ⇒ d ∣ otherwise (numbers r ++ drop 44 d))
+numbers r = firstNumbers r ++ lastNumbers (r .jp2)

@@ -8,3 +8,8 @@ use Rattle.jp2_write.specs.declared.Written.the-variants.{Bytes, Refused}
 abbrev pub toldWritten : Written → List ℕ
 toldWritten (Bytes n) = 0 ∷ 0 ∷ 0 ∷ n ∷ []
 toldWritten (Refused number place) = 1 ∷ number ∷ place ∷ 0 ∷ []
+
+-- the number of a refusal, 0 for bytes that were written
+abbrev pub refusalWritten : Written → ℕ
+refusalWritten (Bytes n) = 0
+refusalWritten (Refused number place) = number

@@ -7,6 +7,9 @@ use oracle::FinishingRequest;
 /// What stands where the port has written no number of an answer; no answer has it.
 pub const UNWRITTEN: u64 = 0xdead_beef_dead_beef;
 
+/// What is returned where a list for an answer is too short.
+pub const NO_ROOM: u32 = 30;
+
 /// So many numbers stand behind each list that finishing writes to, and have to stay.
 const BEHIND: usize = 3;
 
@@ -23,8 +26,8 @@ pub fn answer_differences(
     if let Some(length) = unminded {
         found.push(format!("a list of {length} for the answer is not minded"));
     }
-    if returned != 4 {
-        found.push(format!("returned: 4, ours {returned}"));
+    if u64::from(returned) != asked[1] {
+        found.push(format!("returned: {}, ours {returned}", asked[1]));
     }
     for ((name, asked), ours) in names.iter().zip(asked).zip(ours) {
         if asked != *ours {
@@ -37,24 +40,30 @@ pub fn answer_differences(
     found
 }
 
-/// The answer of reading; none where the port does not write all numbers, or one that no file can give.
+/// The kind of an answer of reading that refuses.
+const REFUSED: u32 = 2;
+
+/// The answer of reading; none where the port does not write all numbers, writes one that no file can give, or returns
+/// another number than it writes.
 pub fn read(file: &[u8]) -> Option<Numbers> {
     let mut out = [UNWRITTEN; COUNT];
-    let count = port::read(file, &mut out);
+    let returned = port::read(file, &mut out);
     let mut numbers = [0; COUNT];
     for (number, written) in numbers.iter_mut().zip(out) {
         *number = u32::try_from(written).ok()?;
     }
-    (count == COUNT as u32).then_some(numbers)
+    let refusal = if numbers[0] == REFUSED { numbers[1] } else { 0 };
+    (returned == refusal).then_some(numbers)
 }
 
 /// Whether reading leaves a list alone that is one number too short, and says so.
 pub fn minds_its_room(file: &[u8]) -> bool {
     let mut numbers = [UNWRITTEN; COUNT - 1];
-    port::read(file, &mut numbers) == 0 && numbers.iter().all(|number| *number == UNWRITTEN)
+    port::read(file, &mut numbers) == NO_ROOM && numbers.iter().all(|number| *number == UNWRITTEN)
 }
 
 /// The answer of finishing and both destinations, whole and with what stands behind them.
+#[derive(PartialEq)]
 pub struct Finished {
     /// What the function returned.
     pub returned: u32,
@@ -73,14 +82,17 @@ pub fn sample_pattern(index: usize) -> i32 {
     record_pattern(index + 7) as i32
 }
 
-/// Finishes a picture with a list of `length` numbers for the answer.
-pub fn finish(picture: &FinishingRequest, length: usize) -> Finished {
+/// Lends a function the two destinations of a picture and a list of `length` numbers for the answer.
+fn lend(
+    picture: &FinishingRequest,
+    length: usize,
+    function: impl FnOnce(&mut [u32], &mut [i32], &mut [u64]) -> u32,
+) -> Finished {
     let (records_room, samples_room) = (picture.records_room, picture.samples_room);
     let mut answer = vec![UNWRITTEN; length + BEHIND];
     let mut records: Vec<_> = (0..records_room + BEHIND).map(record_pattern).collect();
     let mut samples: Vec<_> = (0..samples_room + BEHIND).map(sample_pattern).collect();
-    let returned = port::finish(
-        picture,
+    let returned = function(
         &mut records[..records_room],
         &mut samples[..samples_room],
         &mut answer[..length],
@@ -93,12 +105,33 @@ pub fn finish(picture: &FinishingRequest, length: usize) -> Finished {
     }
 }
 
+/// Reads a picture's file and finishes the picture with a list of `length` numbers for the answer.
+pub fn finish(picture: &FinishingRequest, length: usize) -> Finished {
+    lend(picture, length, |records, samples, answer| {
+        port::finish(picture, records, samples, answer)
+    })
+}
+
+/// Reads a picture's file, and finishes the picture in a second step with the numbers of the reading.
+fn finish_in_two_steps(picture: &FinishingRequest, length: usize) -> Finished {
+    let mut reading = [UNWRITTEN; COUNT];
+    port::read(&picture.file, &mut reading);
+    lend(picture, length, |records, samples, answer| {
+        port::finish_reading(picture, &reading, records, samples, answer)
+    })
+}
+
+/// Whether the two steps come to what one step came to, in every number.
+pub fn same_in_two_steps(picture: &FinishingRequest, length: usize, once: &Finished) -> bool {
+    finish_in_two_steps(picture, length) == *once
+}
+
 /// Whether finishing writes nothing at all where its list for the answer is as short as this, and says so.
 pub fn minds_its_answer(picture: &FinishingRequest, length: usize) -> bool {
     let finished = finish(picture, length);
     let mut records = finished.records.iter().enumerate();
     let mut samples = finished.samples.iter().enumerate();
-    finished.returned == 0
+    finished.returned == NO_ROOM
         && finished.answer.iter().all(|number| *number == UNWRITTEN)
         && records.all(|(index, number)| *number == record_pattern(index))
         && samples.all(|(index, sample)| *sample == sample_pattern(index))

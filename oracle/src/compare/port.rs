@@ -6,6 +6,25 @@ use oracle::FinishingRequest;
 unsafe extern "C" {
     fn cuzhantir_read(file: *const u8, file_len: usize, out: *mut u64, out_len: usize) -> u32;
 
+    fn cuzhantir_finish(
+        file: *const u8,
+        file_len: usize,
+        reading: *const u64,
+        reading_len: usize,
+        ignore: u32,
+        comps: *const u32,
+        comps_len: usize,
+        count: u32,
+        samples: *const i32,
+        samples_len: usize,
+        records: *mut u32,
+        records_len: usize,
+        planes: *mut i32,
+        planes_len: usize,
+        answer: *mut u64,
+        answer_len: usize,
+    ) -> u32;
+
     fn cuzhantir_picture(
         file: *const u8,
         file_len: usize,
@@ -24,8 +43,8 @@ unsafe extern "C" {
     ) -> u32;
 }
 
-/// Reads a file and writes the numbers of the answer, in the order of `oracle::numbers`. Answers how many it wrote, or
-/// 0 where `out` is too short for them.
+/// Reads a file and writes the numbers of the answer, in the order of `oracle::numbers`. Answers the number of a refusal,
+/// else 0; and 30 where `out` is too short for the numbers.
 pub fn read(file: &[u8], out: &mut [u64]) -> u32 {
     // The pointers and lengths are those of slices that live until the call is over.
     unsafe { cuzhantir_read(file.as_ptr(), file.len(), out.as_mut_ptr(), out.len()) }
@@ -33,7 +52,7 @@ pub fn read(file: &[u8], out: &mut [u64]) -> u32 {
 
 /// Reads a picture's file and finishes the picture. Writes kind, number, place and number of planes to `answer`,
 /// finished records to `records` and finished samples to `planes`; their lengths are the room, not the picture's.
-/// Answers 4, or 0 where `answer` is too short.
+/// Answers the number of a refusal, else 0; and 30 where `answer` is too short.
 pub fn finish(
     picture: &FinishingRequest,
     records: &mut [u32],
@@ -45,6 +64,37 @@ pub fn finish(
         cuzhantir_picture(
             picture.file.as_ptr(),
             picture.file.len(),
+            picture.ignore,
+            picture.components.as_ptr(),
+            picture.components.len(),
+            picture.count,
+            picture.samples.as_ptr(),
+            picture.samples.len(),
+            records.as_mut_ptr(),
+            records.len(),
+            planes.as_mut_ptr(),
+            planes.len(),
+            answer.as_mut_ptr(),
+            answer.len(),
+        )
+    }
+}
+
+/// The same with the numbers that `read` gave for the file.
+pub fn finish_reading(
+    picture: &FinishingRequest,
+    reading: &[u64],
+    records: &mut [u32],
+    planes: &mut [i32],
+    answer: &mut [u64],
+) -> u32 {
+    // The pointers and lengths are those of slices that live until the call is over.
+    unsafe {
+        cuzhantir_finish(
+            picture.file.as_ptr(),
+            picture.file.len(),
+            reading.as_ptr(),
+            reading.len(),
             picture.ignore,
             picture.components.as_ptr(),
             picture.components.len(),

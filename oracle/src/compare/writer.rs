@@ -32,8 +32,8 @@ pub struct Request<'a> {
     pub codestream: u64,
 }
 
-/// Writes the boxes before a codestream to `d`, and kind, number, place and the number of bytes to `answer`. Answers 4,
-/// or 0 where `answer` is too short.
+/// Writes the boxes before a codestream to `d`, and kind, number, place and the number of bytes to `answer`. Answers the
+/// number of a refusal, else 0; and 30 where `answer` is too short.
 pub fn write(request: &Request, d: &mut [u8], answer: &mut [u64]) -> u32 {
     let [x0, y0, x1, y1] = request.corners;
     // The pointers and lengths are those of slices that live until the call is over.

@@ -1,73 +1,54 @@
 -- `jp2_export::cuzhantir_read` meets its contract.
 -- Assumes nothing.
-use Rattle.jp2_file.specs.declared.Reading.{Reading}
-use Prim.Native.Nat.{_-_, _≤_}
 use native.Mathlib.Omega.{arith}
-use borrow.Author.Needs.{needs}
-use mathlib.Core.Path.{_≡_, refl, sym, ap, _∙_}
-use mathlib.Core.List.{_++_}
-use lib.ListN.{length, take, drop}
+use mathlib.Core.Path.{refl, ap, _∙_}
+use Rattle.jp2_cio.specs.Number.{placed}
 use Rattle.jp2_cio.proofs.Rows.{row}
-use Rattle.jp2_export.specs.Numbers.{numbers, given, filled}
-use Rattle.jp2_export.proofs.Places.{fill-next, fill-length, fill-all}
+use Rattle.jp2_file.specs.declared.Reading.{Reading}
+use Rattle.jp2_export.specs.Room.{room}
+use Rattle.jp2_export.specs.Numbers.{firstNumbers, lastNumbers, numbers, number}
+use Rattle.jp2_export.proofs.Giving.{length-first, two}
+use borrow.Author.Needs.{needs}
 use Rattle.jp2_export.proofs.cuzhantir_read.Statement.{statement}
 use Rattle.jp2_export.proofs.cuzhantir_read.Tie as tie
 
-abbrev Inv-loop : tie.InvT-loop
-Inv-loop file out₀ r i₀ out i = (i ≤ 44) × (44 ≤ length out₀) × (out ≡ take i (numbers r) ++ drop i out₀)
-
-abbrev μ-loop : tie.MeasureT-loop
-μ-loop file out₀ r i₀ out i = 44 - i
-
-returns : tie.Need-returns Inv-loop μ-loop
-unfolding given filled
+returns : tie.Need-returns
+unfolding room
 returns c = (row 0 _ (omega arith) refl, row 0 _ (omega arith) refl)
 
-read-file-requires : tie.Need-read-file-requires Inv-loop μ-loop
+read-file-requires : tie.Need-read-file-requires
 read-file-requires c κs = search needs
 
-loop-holds : tie.Need-loop-holds Inv-loop μ-loop
-loop-holds c = (omega arith, omega arith, refl)
+give-first-requires : tie.Need-give-first-requires
+give-first-requires c κs = search needs
 
-number-of-requires : tie.Need-number-of-requires Inv-loop μ-loop
-number-of-requires c κs = search needs
+give-last-requires : tie.Need-give-last-requires
+give-last-requires c κs = search needs
 
-mul-out : tie.Need-mul-out Inv-loop μ-loop
-mul-out c = omega arith
+answer-number-requires : tie.Need-answer-number-requires
+answer-number-requires c κs = search needs
 
-slice-write-out : tie.Need-slice-write-out Inv-loop μ-loop
-slice-write-out c = let l = c .before .before .loop in let a = c .before .before .before .before .before .before .before .args in omega (arith, fill-length (numbers (c .before .before .before .read-file .result)) (a .out .now) (l .out) (l .i) (l .inv .2) (omega arith) (omega arith))
+same-length : tie.Need-same-length
+same-length c = search needs
 
-add-i : tie.Need-add-i Inv-loop μ-loop
-add-i c = omega arith
-
-loop-less : tie.Need-loop-less Inv-loop μ-loop
-loop-less c = omega arith
-
-loop-again : tie.Need-loop-again Inv-loop μ-loop
-loop-again c = let l = c .before .before .loop in let a = c .before .before .before .before .before .before .before .args in (omega arith, l .inv .1, fill-next (numbers (c .before .before .before .read-file .result)) (a .out .now) (l .out) (l .i) (l .inv .2) (omega arith) (omega arith) (c .number-of .ensures))
-
-same-length : tie.Need-same-length Inv-loop μ-loop
-same-length c = let l = c .before .loop in let a = c .before .before .before .before .before .before .args in fill-length (numbers (c .before .before .read-file .result)) (a .out .now) (l .out) (l .i) (l .inv .2) (omega arith) (omega arith)
-
-returns-2 : tie.Need-returns-2 Inv-loop μ-loop
-unfolding given filled
-returns-2 c = let l = c .before .loop in let a = c .before .before .before .before .before .before .args in let r = c .before .before .read-file in let e : l .i ≡ 44 = omega arith in (row 1 _ (omega arith) refl, row 1 _ (omega arith) (fill-all (numbers (r .result)) (a .out .now) (l .out) (l .i) e (l .inv .2) ∙ ap (λ (x : Reading). numbers x ++ drop 44 (a .out .now)) (r .ensures)))
+returns-2 : tie.Need-returns-2
+unfolding room
+returns-2 c =
+    let d = c .before .before .before .before .before .before .before .before .before .before .before .before .before .before .args .out .now in
+    let r = c .before .before .before .before .before .before .before .before .before .before .read-file .result in
+    let e = c .before .before .before .before .before .before .before .before .before .before .read-file .ensures in
+    let l = length-first r in
+    let g = two d 0 (firstNumbers r) (lastNumbers (r .jp2)) (omega arith) (omega arith) refl (c .before .before .before .before .before .before .before .before .give-first .ensures) refl (c .before .before .before .give-last .ensures) in
+    (row 1 _ (omega arith) (c .answer-number .ensures ∙ ap (λ (x : Reading). number (x .answer)) e), row 1 _ (omega arith) (g ∙ ap (λ (x : Reading). placed d 0 (numbers x)) e))
 
 pub cuzhantir-read-spec : {M : Type 1} → statement M
 cuzhantir-read-spec =
     tie.close
     (tie.spec
-    Inv-loop
-    μ-loop
     returns
     read-file-requires
-    loop-holds
-    number-of-requires
-    mul-out
-    slice-write-out
-    add-i
-    loop-less
-    loop-again
+    give-first-requires
+    give-last-requires
+    answer-number-requires
     same-length
     returns-2)

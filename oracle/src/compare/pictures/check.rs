@@ -16,6 +16,8 @@ pub struct CheckedPicture {
     ours: Finished,
     /// A length of the list for the answer that is too short and that the port does not mind.
     unminded: Option<usize>,
+    /// Whether reading and then finishing came to the same.
+    same_in_two_steps: bool,
 }
 
 impl Checked for CheckedPicture {
@@ -23,13 +25,16 @@ impl Checked for CheckedPicture {
     type Tally = Tally;
 
     /// The list for the answer is just long enough or one longer, in turn. The picture is finished once more with one
-    /// that is too short, of another length in turn.
+    /// that is too short, of another length in turn, and in two steps.
     fn new(picture: &FinishingRequest, number: u64) -> Self {
         let short = number as usize % 4;
+        let length = 4 + number as usize % 2;
+        let ours = ours::finish(picture, length);
         CheckedPicture {
             asked: finished::answer(picture),
-            ours: ours::finish(picture, 4 + number as usize % 2),
             unminded: (!ours::minds_its_answer(picture, short)).then_some(short),
+            same_in_two_steps: ours::same_in_two_steps(picture, length, &ours),
+            ours,
         }
     }
 
@@ -45,6 +50,9 @@ impl Checked for CheckedPicture {
             &self.ours.answer,
             self.unminded,
         );
+        if !self.same_in_two_steps {
+            found.push("two steps: reading and then finishing comes to something else".to_owned());
+        }
         let untouched = ours::record_pattern;
         found.extend(list(
             "record number",

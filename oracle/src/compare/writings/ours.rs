@@ -1,6 +1,6 @@
 //! The port's writing, as its static library gives it.
 
-use crate::ours::UNWRITTEN;
+use crate::ours::{NO_ROOM, UNWRITTEN};
 use crate::writer::{self, Request};
 use oracle::written::Handed;
 
@@ -47,7 +47,7 @@ pub fn write(handed: &Handed, length: usize) -> Written {
 pub fn minds_its_answer(handed: &Handed, length: usize) -> bool {
     let written = write(handed, length);
     let mut bytes = written.bytes.iter().enumerate();
-    written.returned == 0
+    written.returned == NO_ROOM
         && written.answer.iter().all(|number| *number == UNWRITTEN)
         && bytes.all(|(index, byte)| *byte == pattern(index))
 }
