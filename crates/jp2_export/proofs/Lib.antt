@@ -1,2 +1,4 @@
 pub mod Giving
 pub mod Agains
+pub mod Lents
+pub mod Steps

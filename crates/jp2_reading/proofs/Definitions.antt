@@ -13,10 +13,10 @@ use Rattle.jp2_record.specs.Answer.{accepted}
 use Rattle.jp2_file.specs.File.{Walked, codestream, ended, turnedDown, walk, read}
 use Rattle.jp2_reading.specs.Alike.{given, DefinitionsFree}
 use Rattle.jp2_reading.specs.Apart.{entries}
-use Rattle.jp2_reading.specs.Places.{PlacesWithin, TooLong}
+use Rattle.jp2_reading.specs.Places.{PlacesWithin, NumbersWithin, TooLong}
 use Rattle.jp2_reading.proofs.Parts.{AlikeFrom, lies-whole, alike-whole, equal-apart}
 use Rattle.jp2_reading.proofs.Changes.{Law}
-use Rattle.jp2_reading.proofs.Local.{free, Moves, Reads}
+use Rattle.jp2_reading.proofs.Local.{free, Moves, Refuses, refuses, later, Reads}
 use Rattle.jp2_reading.proofs.Walks.{heard, file-reads}
 
 pub too-long : TooLong
@@ -26,7 +26,7 @@ too-long f h = sym (row 0 _ (omega arith) refl)
 -- what reading f does to the record before any box
 pub read-reads : {f : List ℕ} {P : ℕ → Jp2 → Type 0} → Law f P → Reads P (heard (length f) 0 blank) 0 f blank (read f)
 unfolding walk
-read-reads {f} {P} law = each (Reads P (heard (length f) 0 blank) 0 f blank) _ ((λ h. omega arith), λ _. file-reads law (length f) 0 f blank (lies-whole f))
+read-reads {f} {P} law = each (Reads P (heard (length f) 0 blank) 0 f blank) _ ((λ h. refuses (omega arith) (omega arith) (omega arith)), λ _. file-reads law (length f) 0 f blank (lies-whole f))
 
 -- the record that f is read to
 pub read-moves : {f : List ℕ} {P : ℕ → Jp2 → Type 0} → Law f P → (m : Jp2) → given (read f) ≡ accepted m → Moves P (heard (length f) 0 blank) 0 f blank m
@@ -49,9 +49,15 @@ definitions-free f g m e a =
     each (λ (_ : ℕ). read g ≡ read f) (m .lists .cdef .count =? 0 ⇒ 0 ∣ otherwise 0)
     ((λ z. ap read (equal-apart d (λ i l b. omega arith))), λ h. rw (a .long, free refl (omega arith) ((read-moves (nothing f) m e) .list) g d))
 
+refused-reads : (f : List ℕ) (number place : ℕ) → read f ≡ turnedDown number place → Refuses number place (length f)
+refused-reads f number place e = later (subst (Reads (λ _ _. Unit) (heard (length f) 0 blank) 0 f blank) e (read-reads (nothing f))) (omega arith)
+
+pub numbers-within : NumbersWithin
+numbers-within f number place e = let r = refused-reads f number place e in (r .least, r .most)
+
 pub places-within : PlacesWithin
 places-within =
     record {
-      refusal = λ f number place e. omega (arith, subst (Reads (λ _ _. Unit) (heard (length f) 0 blank) 0 f blank) e (read-reads (nothing f)));
+      refusal = λ f number place e. (refused-reads f number place e) .within;
       stream = λ f offset m e. omega (arith, (subst (Reads (λ _ _. Unit) (heard (length f) 0 blank) 0 f blank) e (read-reads (nothing f))) .0);
     }

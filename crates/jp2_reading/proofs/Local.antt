@@ -66,11 +66,24 @@ pub record Moves {X : Type 0} (P : ℕ → Jp2 → Type 0) (R : List ℕ → X) 
   pub list : Local R start c (j .lists .cdef) (m .lists .cdef)
   pub keeps : P start j → P (start + length c) m
 
+-- a refusal: its number is one of reading's, 1 to 24, and it is at a byte before end
+pub record Refuses (number place end : ℕ) : Type 0 where
+  pub least : 1 ≤ number
+  pub most : number ≤ 24
+  pub within : place < end
+
 -- the same of an answer; a refusal is at a byte, and the codestream at a byte or at the end
 abbrev pub Reads : {X : Type 0} → (ℕ → Jp2 → Type 0) → (List ℕ → X) → ℕ → List ℕ → Jp2 → Walked → Type 0
 Reads P R start c j (codestream offset m) = (offset ≤ start + length c) × Moves P R start c j m
 Reads P R start c j (ended m) = Moves P R start c j m
-Reads P R start c j (turnedDown number place) = place < start + length c
+Reads P R start c j (turnedDown number place) = Refuses number place (start + length c)
+
+pub refuses : {number place end : ℕ} → 1 ≤ number → number ≤ 24 → place < end → Refuses number place end
+refuses a b w = record { least = a; most = b; within = w }
+
+-- it is before a later end too
+pub later : {number place e f : ℕ} → Refuses number place e → e ≤ f → Refuses number place f
+later r h = record { least = r .least; most = r .most; within = let w = r .within in omega arith }
 
 -- a box and the rest, of answers
 module _ {f : List ℕ} {P : ℕ → Jp2 → Type 0} (law : Law f P) {X Y Z : Type 0} (R : List ℕ → X) (F : List ℕ → Y) (G : Jp2 → List ℕ → Z) (at : ℕ) (c : List ℕ) (w : Whole c) where
@@ -85,10 +98,10 @@ module _ {f : List ℕ} {P : ℕ → Jp2 → Type 0} (law : Law f P) {X Y Z : Ty
       }
 
   pub chain : (k : Jp2) (r : Result) (next : Jp2 → Walked) → Reads P F (at + headerLength c) (content c c) k (thenWalk r ended) → ((m : Jp2) → Reads P (G m) (at + boxLength c) (rest c c) m (next m)) → ((m : Jp2) → r ≡ accepted m → Follows R F (G m) c) → Reads P R at c k (thenWalk r next)
-  chain k (refused number place) next x y whole = omega (arith, w .within, length-content w)
+  chain k (refused number place) next x y whole = later x (omega (arith, w .within, length-content w))
   chain k (accepted m) next x y whole = go (next m) (y m)
     where
       go : (a : Walked) → Reads P (G m) (at + boxLength c) (rest c c) m a → Reads P R at c k a
       go (codestream offset o) z = (omega (arith, length-rest w, z .0), both x (z .1) (whole m refl))
       go (ended o) z = both x z (whole m refl)
-      go (turnedDown number place) z = omega (arith, length-rest w)
+      go (turnedDown number place) z = later z (omega (arith, length-rest w))

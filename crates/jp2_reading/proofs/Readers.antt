@@ -1,6 +1,6 @@
 -- Each reader, for what it does to the record. R is any reading that depends on the content only through that reader.
 -- Assumes nothing.
-use Prim.Native.Nat.{ℕ, _<_}
+use Prim.Native.Nat.{ℕ, _≤_, _<_}
 use mathlib.Core.Path.{_≡_, refl}
 use mathlib.Core.List.{List}
 use native.Mathlib.Omega.{arith}
@@ -10,7 +10,7 @@ use Rattle.jp2_box.specs.declared.consts.Jp2BoxType.{Jp2BoxType}
 use Rattle.jp2_box.specs.declared.consts.Jp2BoxType.the-variants.{None, JPIP, JP, FTYP, JP2H, IHDR, COLR, JP2C, URL, PCLR, CMAP, CDEF, DTBL, BPCC, JP2, RES, JP2I, XML, UUID, UINF, Unknown}
 use Rattle.jp2_record.specs.declared.Lab.{Lab}
 use Rattle.jp2_record.specs.declared.Jp2.{Jp2}
-use Rattle.jp2_record.specs.Answer.{Result}
+use Rattle.jp2_record.specs.Answer.{Result, refused}
 use Rattle.jp2_signature.specs.Signature.{signature}
 use Rattle.jp2_signature.specs.FileType.{fileType}
 use Rattle.jp2_image.specs.Ihdr.{image, ihdr}
@@ -24,7 +24,7 @@ use Rattle.jp2_file.specs.File.{ended, thenWalk}
 use Rattle.jp2_reading.proofs.Sames.{number-same}
 use Rattle.jp2_reading.proofs.Parts.{Lies, alike-first}
 use Rattle.jp2_reading.proofs.Changes.{Change, marked, typed, sized, deep, tinted, profiled, indexed, mapped, defined, Law}
-use Rattle.jp2_reading.proofs.Local.{kept, set, Through, Moves, Reads}
+use Rattle.jp2_reading.proofs.Local.{kept, set, Through, Moves, Reads, refuses}
 
 lab-count : (c : List ℕ) → ((lab c) .count ≡ 0 → ⊥) → ((lab c) .count ≡ 8 → ⊥) → (lab c) .count ≡ 9
 unfolding lab
@@ -49,6 +49,9 @@ module _ {f : List ℕ} {P : ℕ → Jp2 → Type 0} (law : Law f P) {X : Type 0
   abbrev Answers : Result → Type 0
   Answers r = Reads P R start c j (thenWalk r ended)
 
+  no : {number : ℕ} → 1 ≤ number → number ≤ 24 → Answers (refused number place)
+  no a b = refuses a b (omega arith)
+
   with : {m : Jp2} → Change start c j m → m .lists .cdef ≡ j .lists .cdef → Moves P R start c j m
   with = moves law R start c j lies
 
@@ -57,29 +60,29 @@ module _ {f : List ℕ} {P : ℕ → Jp2 → Type 0} (law : Law f P) {X : Type 0
 
   pub signature-reads : Answers (signature place start c j)
   unfolding signature
-  signature-reads = each Answers _ ((λ _. omega arith), λ _. with (marked _ (λ h. h)) refl)
+  signature-reads = each Answers _ ((λ _. no (omega arith) (omega arith)), λ _. with (marked _ (λ h. h)) refl)
 
   pub type-reads : Answers (fileType place start c j)
   unfolding fileType
-  type-reads = each Answers _ ((λ _. omega arith), λ h. with (typed _ (h .1 .0)) refl)
+  type-reads = each Answers _ ((λ _. no (omega arith) (omega arith)), λ h. with (typed _ (h .1 .0)) refl)
 
   ihdr-reads : Answers (ihdr place start c j)
   unfolding ihdr
-  ihdr-reads = each Answers _ ((λ _. on), λ _. ((λ _. omega arith), λ _. ((λ _. omega arith), λ _. ((λ _. omega arith), λ h. with (sized (image c) h) refl))))
+  ihdr-reads = each Answers _ ((λ _. on), λ _. ((λ _. no (omega arith) (omega arith)), λ _. ((λ _. no (omega arith) (omega arith)), λ _. ((λ _. no (omega arith) (omega arith)), λ h. with (sized (image c) h) refl))))
 
   bpcc-reads : Answers (bpcc place start c j)
   unfolding bpcc
-  bpcc-reads = each Answers _ ((λ _. omega arith), λ _. with deep refl)
+  bpcc-reads = each Answers _ ((λ _. no (omega arith) (omega arith)), λ _. with deep refl)
 
   colr-reads : Answers (colr place start c j)
   unfolding colr
   colr-reads =
       each Answers _ (
-        (λ _. omega arith),
+        (λ _. no (omega arith) (omega arith)),
         λ three. (
           (λ _. on),
           λ _. (
-            (λ _. omega arith),
+            (λ _. no (omega arith) (omega arith)),
             λ _. (
               (λ _. with (tinted _ (λ _. (omega arith, lab-count c))) refl),
               λ _. (
@@ -96,23 +99,23 @@ module _ {f : List ℕ} {P : ℕ → Jp2 → Type 0} (law : Law f P) {X : Type 0
   unfolding pclr
   pclr-reads =
       each Answers _
-      ((λ _. omega arith), λ none. ((λ _. omega arith), λ _. ((λ _. omega arith), λ h. ((λ _. omega arith), λ room. with (indexed none (omega (arith, h .0)) (h .1 .0) (omega (arith, h .1 .1)) room) refl))))
+      ((λ _. no (omega arith) (omega arith)), λ none. ((λ _. no (omega arith) (omega arith)), λ _. ((λ _. no (omega arith) (omega arith)), λ h. ((λ _. no (omega arith) (omega arith)), λ room. with (indexed none (omega (arith, h .0)) (h .1 .0) (omega (arith, h .1 .1)) room) refl))))
 
   cmap-reads : Answers (cmap place start c j)
   unfolding cmap
-  cmap-reads = each Answers _ ((λ _. omega arith), λ some. ((λ _. omega arith), λ _. ((λ _. omega arith), λ room. with (mapped some room) refl)))
+  cmap-reads = each Answers _ ((λ _. no (omega arith) (omega arith)), λ some. ((λ _. no (omega arith) (omega arith)), λ _. ((λ _. no (omega arith) (omega arith)), λ room. with (mapped some room) refl)))
 
   cdef-sets : Through R N c → Answers (cdef place start c j)
   unfolding cdef
   cdef-sets through =
       each Answers _ (
-        (λ _. omega arith),
+        (λ _. no (omega arith) (omega arith)),
         λ none. (
-          (λ _. omega arith),
+          (λ _. no (omega arith) (omega arith)),
           λ _. (
-            (λ _. omega arith),
+            (λ _. no (omega arith) (omega arith)),
             λ some. (
-              (λ _. omega arith),
+              (λ _. no (omega arith) (omega arith)),
               λ room.
                   record {
                     list = set none (omega arith) (omega arith) (omega arith) (λ e a. through e (a .long) (number-same 2 (alike-first a 2 (omega arith) (omega arith))));

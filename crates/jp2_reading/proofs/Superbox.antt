@@ -24,7 +24,7 @@ use Rattle.jp2_reading.proofs.Sames.{headed-self}
 use Rattle.jp2_reading.proofs.Parts.{Whole, content, rest, Lies, lies-part, lies-drop}
 use Rattle.jp2_reading.proofs.Splits.{boxOf, Found, split-next}
 use Rattle.jp2_reading.proofs.Changes.{Law, mark}
-use Rattle.jp2_reading.proofs.Local.{Through, carry, Follows, Moves, Reads, chain}
+use Rattle.jp2_reading.proofs.Local.{Through, carry, Follows, Moves, Reads, refuses, chain}
 use Rattle.jp2_reading.proofs.Readers.{stays, reader-reads}
 
 then-then : (r : Result) (next : Jp2 → Result) → thenWalk r (λ m. thenWalk (next m) ended) ≡ thenWalk (andThen r next) ended
@@ -58,15 +58,15 @@ module _ {f : List ℕ} {P : ℕ → Jp2 → Type 0} (law : Law f P) where
       each (λ bs. Reads P (told (suc n) at k) at c k (thenWalk (readAll bs k) ended)) _ (
         (λ _. stays law _ at c k lies),
         λ some. (
-          (λ _. omega arith),
+          (λ _. refuses (omega arith) (omega arith) (omega arith)),
           λ header. (
-            (λ _. omega arith),
+            (λ _. refuses (omega arith) (omega arith) (omega arith)),
             λ low. (
-              (λ _. omega arith),
+              (λ _. refuses (omega arith) (omega arith) (omega arith)),
               λ z. (
-                (λ _. omega arith),
+                (λ _. refuses (omega arith) (omega arith) (omega arith)),
                 λ least. (
-                  (λ _. omega arith),
+                  (λ _. refuses (omega arith) (omega arith) (omega arith)),
                   λ within.
                       let w : Whole c = record { header = header; least = least; within = within } in
                       subst (Reads P (told (suc n) at k) at c k) (then-then (child (firstBox at c) k) (readAll (split n (at + boxLength c) (rest c c))))
@@ -100,11 +100,11 @@ module _ {f : List ℕ} {P : ℕ → Jp2 → Type 0} (law : Law f P) where
 
     finish-reads : Through R inner c → (r : Result) (b : Bool) → Reads P inner start c (withImgstate 0 j) (thenWalk r ended) → Answers (andThen r λ k. table (flag b ⇒ refused 12 place ∣ otherwise (accepted (withHeaderBit k))))
     finish-reads through (refused number at) b y = y
-    finish-reads through (accepted m) b y = each Answers _ ((λ _. omega arith), λ _. finished m through y)
+    finish-reads through (accepted m) b y = each Answers _ ((λ _. refuses (omega arith) (omega arith) (omega arith)), λ _. finished m through y)
 
     jp2h-found : Through R inner c → Answers (jp2h place start c j)
     unfolding jp2h
-    jp2h-found through = each Answers _ ((λ _. omega arith), λ _. finish-reads through (readAll (boxes start c) (withImgstate 0 j)) (lacksIhdr (boxes start c)) (children-reads (length c) start c (withImgstate 0 j) lies))
+    jp2h-found through = each Answers _ ((λ _. refuses (omega arith) (omega arith) (omega arith)), λ _. finish-reads through (readAll (boxes start c) (withImgstate 0 j)) (lacksIhdr (boxes start c)) (children-reads (length c) start c (withImgstate 0 j) lies))
 
     pub jp2h-reads : Through R (λ e. jp2h place start e j) c → Answers (jp2h place start c j)
     jp2h-reads through = jp2h-found (λ e l t. through e l (jp2h-same place start c e j l t))

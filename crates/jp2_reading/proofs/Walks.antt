@@ -19,7 +19,7 @@ use Rattle.jp2_reading.proofs.Sames.{headed-self}
 use Rattle.jp2_reading.proofs.Parts.{Whole, content, rest, Lies, lies-part, lies-drop}
 use Rattle.jp2_reading.proofs.Splits.{boxOf, Found, split-next, split-last}
 use Rattle.jp2_reading.proofs.Changes.{marked, Law}
-use Rattle.jp2_reading.proofs.Local.{Through, Follows, Moves, Reads, chain}
+use Rattle.jp2_reading.proofs.Local.{Through, Follows, Moves, Reads, refuses, chain}
 use Rattle.jp2_reading.proofs.Readers.{moves, stays, signature-reads, type-reads, reader-reads}
 use Rattle.jp2_reading.proofs.Superbox.{jp2h-reads}
 
@@ -71,7 +71,7 @@ module _ {f : List ℕ} {P : ℕ → Jp2 → Type 0} (law : Law f P) where
                 λ n₃. (
                   (λ h. reader-reads law R at (at + headerLength c) x k lies first (kindOf (TBox c)) (λ e l q. through e l (sym (row 4 _ (n₀, (n₁, (n₂, (n₃, h)))) refl) ∙ q ∙ row 4 _ (n₀, (n₁, (n₂, (n₃, h)))) refl))),
                   λ _.
-                      each Answers _ ((λ _. before), λ _. ((λ _. before), λ _. unknown)),
+                      each Answers _ ((λ _. refuses (omega arith) (omega arith) before), λ _. ((λ _. refuses (omega arith) (omega arith) before), λ _. unknown)),
                 ),
               ),
             ),
@@ -84,7 +84,7 @@ module _ {f : List ℕ} {P : ℕ → Jp2 → Type 0} (law : Law f P) where
     here = omega (arith, header-least c)
 
     stream-reads : {X : Type 0} (R : List ℕ → X) → Reads P R at c k (stream (firstBox at c) k)
-    stream-reads R = each (Reads P R at c k) _ ((λ _. here), λ _. (omega arith, moves law R at c k lies (marked _ (λ x. x)) refl))
+    stream-reads R = each (Reads P R at c k) _ ((λ _. refuses (omega arith) (omega arith) here), λ _. (omega arith, moves law R at c k lies (marked _ (λ x. x)) refl))
 
     whole-reads : {X Z : Type 0} (R : List ℕ → X) (G : Jp2 → List ℕ → Z) (next : Jp2 → Walked) → Whole c → ((m : Jp2) → Reads P (G m) (at + boxLength c) (rest c c) m (next m)) → (Says false (isStream (firstBox at c)) → (m : Jp2) → outer (firstBox at c) k ≡ accepted m → Follows R (λ x. outer (boxOf at c x) k) (G m) c) → Reads P R at c k (whole (firstBox at c) k next)
     whole-reads R G next w rest through =
@@ -100,7 +100,7 @@ module _ {f : List ℕ} {P : ℕ → Jp2 → Type 0} (law : Law f P) where
     past-reads : {X : Type 0} (R : List ℕ → X) → Reads P R at c k (pastEnd (firstBox at c) k)
     past-reads R =
         each (Reads P R at c k) _
-        ((λ _. here), λ _. each (λ r. Reads P R at c k (thenWalk r ended)) _ ((λ _. here), λ _. ((λ _. here), λ _. moves law R at c k lies (marked _ (λ x. x)) refl)))
+        ((λ _. refuses (omega arith) (omega arith) here), λ _. each (λ r. Reads P R at c k (thenWalk r ended)) _ ((λ _. refuses (omega arith) (omega arith) here), λ _. ((λ _. refuses (omega arith) (omega arith) here), λ _. moves law R at c k lies (marked _ (λ x. x)) refl)))
 
   file-step : (n at : ℕ) (c : List ℕ) (k : Jp2) → Lies f at c → ((m : Jp2) → boxLength c ≤ length c → Reads P (heard n (at + boxLength c) m) (at + boxLength c) (rest c c) m (heard n (at + boxLength c) m (rest c c))) → Reads P (heard (suc n) at k) at c k (heard (suc n) at k c)
   unfolding split run
@@ -120,7 +120,7 @@ module _ {f : List ℕ} {P : ℕ → Jp2 → Type 0} (law : Law f P) where
                   whole-reads at c k lies header R (λ m _. ended m) ended w (λ m. stays law _ (at + boxLength c) _ m (lies-drop lies (boxLength c) (w .within)))
                   (λ s m r. heard-last n at c k m (record { some = some; low = low; whole = w }) s r z)),
               λ z. (
-                (λ _. each (Reads P R at c k) _ ((λ _. stream-reads at c k lies header R), λ _. omega arith)),
+                (λ _. each (Reads P R at c k) _ ((λ _. stream-reads at c k lies header R), λ _. refuses (omega arith) (omega arith) (omega arith))),
                 λ least. (
                   (λ _. each (Reads P R at c k) _ ((λ _. stream-reads at c k lies header R), λ _. past-reads at c k lies header R)),
                   λ within.

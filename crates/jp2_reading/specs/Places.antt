@@ -11,6 +11,10 @@ pub record PlacesWithin : Type 0 where
   pub refusal : (f : List ℕ) (number place : ℕ) → read f ≡ turnedDown number place → place < length f
   pub stream : (f : List ℕ) (offset : ℕ) (m : Jp2) → read f ≡ codestream offset m → offset ≤ length f
 
+-- a file is turned down by one of document 01's numbers for reading
+abbrev pub NumbersWithin : Type 0
+NumbersWithin = (f : List ℕ) (number place : ℕ) → read f ≡ turnedDown number place → (1 ≤ number) × (number ≤ 24)
+
 -- a file of more than 4294967295 bytes is turned down for that, whatever stands in it
 abbrev pub TooLong : Type 0
 TooLong = (f : List ℕ) → 4294967295 < length f → read f ≡ turnedDown 1 0
