@@ -35,21 +35,30 @@ pub fn bpcc(count: usize) -> Vec<u8> {
     plain(BPCC, &vec![7; count])
 }
 
-/// 256 entries and three columns of 8 bits.
-pub fn pclr() -> Vec<u8> {
-    let entries = (0..=255u8).flat_map(|entry| [entry, entry ^ 0x55, 255 - entry]);
-    plain(
-        PCLR,
-        &[1, 0, 3, 7, 7, 7]
-            .into_iter()
-            .chain(entries)
-            .collect::<Vec<_>>(),
-    )
+/// 256 entries and as many columns of 8 bits, four at most.
+pub fn pclr(columns: u8) -> Vec<u8> {
+    let columns_of = |entry: u8| [entry, entry ^ 0x55, 255 - entry, entry ^ 0xaa];
+    let entries = (0..=255).flat_map(|entry| columns_of(entry).into_iter().take(columns.into()));
+    let widths = [7; 4].into_iter().take(columns.into());
+    let content = [1, 0, columns].into_iter().chain(widths).chain(entries);
+    plain(PCLR, &content.collect::<Vec<_>>())
 }
 
-/// The three columns, for component 0.
-pub fn cmap() -> Vec<u8> {
-    plain(CMAP, &[0, 0, 1, 0, 0, 0, 1, 1, 0, 0, 1, 2])
+/// A mapping, as a file has it.
+pub type Mapping = [u8; 4];
+
+/// Component 0, looked up in this column.
+pub fn looked_up(column: u8) -> Mapping {
+    [0, 0, 1, column]
+}
+
+/// This component, as it is.
+pub fn direct(component: u8) -> Mapping {
+    [0, component, 0, 0]
+}
+
+pub fn cmap(mappings: &[Mapping]) -> Vec<u8> {
+    plain(CMAP, &mappings.concat())
 }
 
 /// Definitions of channel, typ and asoc.

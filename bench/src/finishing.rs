@@ -1,13 +1,15 @@
-//! Finishing one picture, by the port and by the crate.
+//! Finishing one picture, by the port, by the crate and by OpenJPEG.
 
 use crate::clock::seconds;
+use crate::openjpeg::{self, Library};
 use crate::port;
+use crate::table::Run;
 use crate::Disagreement;
 use oracle::bare::{self, Image};
 use oracle::{Component, FinishingRequest, Plane, NO_DATA};
 use std::hint::black_box;
 
-/// What is handed in: to the port as numbers, to the crate as components.
+/// What is handed in: to the port and to OpenJPEG as numbers, to the crate as components.
 pub struct Picture {
     request: FinishingRequest,
     components: Vec<Component>,
@@ -70,12 +72,18 @@ impl Picture {
     /// The seconds that the crate takes to read the file and to finish the picture, out of as many calls; making the
     /// pictures is not counted.
     pub fn their_seconds(&self, calls: u32) -> f64 {
-        let mut images: Vec<_> = (0..calls).map(|_| self.image()).collect();
-        let all = seconds(|| {
-            let images = black_box(&mut images);
-            images.iter_mut().all(|image| self.theirs(image))
-        });
-        all / f64::from(calls)
+        of_each(calls, || self.image(), |image| self.theirs(image))
+    }
+
+    /// The same for OpenJPEG, where it is there.
+    pub fn openjpeg_run(&self, calls: u32) -> Option<Run<'_>> {
+        let library = openjpeg::library()?;
+        Some(Box::new(move || {
+            let image = || library.image(&self.request);
+            of_each(calls, image, |image| {
+                image.finish(black_box(&self.request.file))
+            })
+        }))
     }
 
     fn image(&self) -> Image {
@@ -87,27 +95,45 @@ impl Picture {
         jp2.is_some_and(|mut jp2| bare::finish(&mut jp2, image, false))
     }
 
-    /// The finished picture, which both have to give.
+    /// The finished picture, which all have to give.
     pub fn finished(&self, name: &str) -> Result<Lists, Disagreement> {
         let mut lists = Lists::written(self);
-        let mut image = self.image();
         let answer = self.ours(&mut lists);
-        let accepted = self.theirs(&mut image);
-        let planes = image.planes();
-        let finished = [0, 0, 0, planes.len() as u64];
-        let records = lists.records.chunks(13);
-        if accepted
-            && answer == finished
-            && records.len() == planes.len()
-            && planes
-                .iter()
-                .zip(records)
-                .all(|(plane, record)| alike(plane, record, &lists.samples))
+        let planes = lists.records.len() as u64 / 13;
+        if answer == [0, 0, 0, planes]
+            && self.crate_gives(&lists)
+            && openjpeg::library().is_none_or(|library| self.openjpeg_gives(library, &lists))
         {
             return Ok(lists);
         }
         Err(format!("{name}: the answers differ"))
     }
+
+    fn crate_gives(&self, lists: &Lists) -> bool {
+        let mut image = self.image();
+        self.theirs(&mut image) && all_alike(&image.planes(), lists)
+    }
+
+    fn openjpeg_gives(&self, library: Library, lists: &Lists) -> bool {
+        let mut image = library.image(&self.request);
+        image.finish(&self.request.file) && all_alike(&image.planes(), lists)
+    }
+}
+
+/// The seconds of one call, out of as many, each on a thing of its own that is made before and let go after.
+fn of_each<T>(calls: u32, make: impl Fn() -> T, run: impl Fn(&mut T) -> bool) -> f64 {
+    let mut things: Vec<_> = (0..calls).map(|_| make()).collect();
+    let all = seconds(|| black_box(&mut things).iter_mut().all(run));
+    all / f64::from(calls)
+}
+
+fn all_alike(planes: &[Plane], lists: &Lists) -> bool {
+    let records = lists.records.chunks(13);
+    records.len() == planes.len()
+        && planes
+            .iter()
+            .zip(records)
+            .all(|(plane, record)| alike(plane, record, &lists.samples))
 }
 
 fn alike(plane: &Plane, record: &[u32], samples: &[i32]) -> bool {

@@ -1,23 +1,49 @@
-//! Times the port, the crate openjp2 0.6.1 and a plain copy on the same inputs, in one run, and prints the ratios.
+//! Times the port, the crate openjp2 0.6.1, OpenJPEG's C library and a plain copy on the same inputs, in one run, and
+//! prints the ratios.
+
+// Where OpenJPEG is not there, what asks it is never reached.
+#![cfg_attr(not(openjpeg), allow(unreachable_code, unused_mut, unused_variables))]
 
 mod clock;
 mod files;
 mod finishing;
+mod inputs;
+mod machine;
 mod memory;
+#[cfg_attr(openjpeg, path = "openjpeg/linked.rs")]
+#[cfg_attr(not(openjpeg), path = "openjpeg/absent.rs")]
+mod openjpeg;
 mod pictures;
+// The comparison asks the port for more than the bench does.
+#[allow(dead_code)]
 #[path = "../../oracle/src/compare/port.rs"]
 mod port;
 mod reading;
+mod repeat;
 mod table;
+#[path = "../../oracle/src/compare/writer.rs"]
+mod writer;
+mod writing;
 
 use std::process::ExitCode;
 use table::Table;
 
-/// Why a case cannot be timed: the port and the crate do not do the same.
+/// Why a case cannot be timed: two of those that are timed do not do the same.
 type Disagreement = String;
 
 fn main() -> ExitCode {
-    match run() {
+    let arguments: Vec<_> = std::env::args().skip(1).collect();
+    let table = match arguments.iter().map(String::as_str).collect::<Vec<_>>()[..] {
+        [] => Table::for_a_terminal(),
+        ["--readme"] => Table::for_the_readme(),
+        ["--repeat", "reorder"] => return repeat::reorder(),
+        ["--repeat", "palette"] => return repeat::palette(),
+        _ => {
+            eprintln!("bench: arguments are none, --readme, --repeat reorder or --repeat palette");
+            return ExitCode::FAILURE;
+        }
+    };
+    match run(table) {
         Ok(()) => ExitCode::SUCCESS,
         Err(why) => {
             eprintln!("bench: {why}");
@@ -26,10 +52,10 @@ fn main() -> ExitCode {
     }
 }
 
-fn run() -> Result<(), Disagreement> {
-    let mut table = Table::new();
+fn run(mut table: Table) -> Result<(), Disagreement> {
     reading::time(&mut table)?;
     pictures::time(&mut table)?;
+    writing::time(&mut table)?;
     table.end();
     Ok(())
 }

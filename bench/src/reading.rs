@@ -1,9 +1,10 @@
 //! Reading a file.
 
 use crate::clock::seconds_of_one;
-use crate::files::{bpcc, cdef, cmap, colr, file, ihdr, pclr, reversed};
+use crate::files::{bpcc, cdef, cmap, colr, file, ihdr, looked_up, pclr, reversed};
+use crate::openjpeg;
 use crate::port;
-use crate::table::{Case, Table};
+use crate::table::{Case, Run, Table};
 use crate::Disagreement;
 use oracle::numbers::{self, COUNT};
 use std::hint::black_box;
@@ -16,8 +17,8 @@ pub fn time(table: &mut Table) -> Result<(), Disagreement> {
             file(&[
                 ihdr(640, 480, 1),
                 colr(),
-                pclr(),
-                cmap(),
+                pclr(3),
+                cmap(&[0, 1, 2].map(looked_up)),
                 cdef(&reversed(3)),
             ]),
             2000,
@@ -35,21 +36,34 @@ pub fn time(table: &mut Table) -> Result<(), Disagreement> {
 }
 
 fn time_file(table: &mut Table, name: &str, file: &[u8], calls: u32) -> Result<(), Disagreement> {
-    let asked = numbers::expected(file, &oracle::read(file));
-    if asked.map(|numbers| numbers.map(u64::from)) != Some(read(file)) {
+    if !alike(file) {
         return Err(format!("reading, {name}: the answers differ"));
     }
+    let openjpeg = openjpeg::library().map(|library| -> Run {
+        Box::new(move || seconds_of_one(calls, || library.read(black_box(file))))
+    });
     let mut copied = file.to_vec();
     table.time(Case {
         name: format!("reading, {name}, {} bytes", file.len()),
         buffers: "hot",
         ours: Box::new(|| seconds_of_one(calls, || read(black_box(file)))),
         theirs: Box::new(|| seconds_of_one(calls, || oracle::bare::read(black_box(file)))),
-        copy: Some(Box::new(|| {
+        making: None,
+        openjpeg,
+        copy: Box::new(|| {
             seconds_of_one(calls, || black_box(&mut copied[..]).copy_from_slice(file))
-        })),
+        }),
     });
     Ok(())
+}
+
+/// Whether all read the same from the file.
+fn alike(file: &[u8]) -> bool {
+    let Some(asked) = numbers::expected(file, &oracle::read(file)) else {
+        return false;
+    };
+    let reads = |library: openjpeg::Library| library.reads(file, &asked);
+    read(file) == asked.map(u64::from) && openjpeg::library().is_none_or(reads)
 }
 
 fn read(file: &[u8]) -> [u64; COUNT] {

@@ -1,99 +1,175 @@
 //! The rounds, and the table.
 
+use crate::machine;
 use std::time::{Duration, Instant};
 
 /// So many rounds count at most. The fastest run of each counts, because something was in the way of the others.
 const ROUNDS: usize = 20;
 
 /// Fewer rounds where they take longer than this together.
-const LONG: Duration = Duration::from_secs(5);
+const LONG: Duration = Duration::from_secs(10);
 
 /// One run, which answers the seconds of the part that counts.
-type Run<'a> = Box<dyn FnMut() -> f64 + 'a>;
+pub type Run<'a> = Box<dyn FnMut() -> f64 + 'a>;
 
-/// The three that are timed. Without samples there is nothing to copy.
+/// Those that are timed.
 pub struct Case<'a> {
     pub name: String,
     /// What state the buffers are in when the time begins.
     pub buffers: &'static str,
     pub ours: Run<'a>,
     pub theirs: Run<'a>,
-    pub copy: Option<Run<'a>>,
+    /// What of the crate's run is not the crate's, where that cannot be kept out of it. It is taken off.
+    pub making: Option<Run<'a>>,
+    /// None where OpenJPEG's source was not there.
+    pub openjpeg: Option<Run<'a>>,
+    pub copy: Run<'a>,
 }
 
+const HEADS: [&str; 9] = [
+    "case",
+    "buffers",
+    "ours",
+    "crate",
+    "OpenJPEG",
+    "copy",
+    "ours/crate",
+    "ours/OpenJPEG",
+    "ours/copy",
+];
+
 /// The table, line by line as the times come in.
-pub struct Table;
+pub struct Table {
+    /// How wide each column is, at least.
+    widths: [usize; HEADS.len()],
+    /// Whether what the words mean is said below.
+    explained: bool,
+}
 
 impl Table {
-    pub fn new() -> Self {
-        println!("Microseconds of the processor's time, the fastest of up to {ROUNDS} rounds.");
-        println!();
+    pub fn for_a_terminal() -> Self {
         println!(
-            "| {:<44} | {:<8} | {:>11} | {:>11} | {:>11} | {:>10} | {:>9} |",
-            "case", "buffers", "ours", "crate", "copy", "ours/crate", "ours/copy"
+            "Microseconds of the processor's time, the fastest of up to {ROUNDS} rounds, on {}.",
+            machine::kind()
         );
-        println!("|---|---|---:|---:|---:|---:|---:|");
-        Table
+        println!();
+        Table::begin([50, 7, 9, 9, 9, 9, 10, 13, 9], true)
+    }
+
+    pub fn for_the_readme() -> Self {
+        println!("{}. OpenJPEG: {ORIGIN}. Microseconds:", machine::kind());
+        println!();
+        Table::begin([0; HEADS.len()], false)
+    }
+
+    fn begin(widths: [usize; HEADS.len()], explained: bool) -> Self {
+        let table = Table { widths, explained };
+        table.line(HEADS.map(str::to_owned));
+        println!("|---|---|---:|---:|---:|---:|---:|---:|---:|");
+        table
+    }
+
+    /// The first two columns stand to the left, the numbers to the right.
+    fn line(&self, cells: [String; HEADS.len()]) {
+        for (column, (cell, width)) in cells.iter().zip(self.widths).enumerate() {
+            match column {
+                0 | 1 => print!("| {cell:<width$} "),
+                _ => print!("| {cell:>width$} "),
+            }
+        }
+        println!("|");
     }
 
     /// Times a case and prints its line.
     pub fn time(&mut self, case: Case) {
-        let mut runs = [Some(case.ours), Some(case.theirs), case.copy];
-        let mut best = [f64::INFINITY; 3];
-        // Forth and back, so that each of the two that write the same destination has runs right after its own.
-        let mut order = [0, 1, 2];
-        let start = Instant::now();
-        for round in 0..ROUNDS {
-            if round > 1 && start.elapsed() > LONG {
-                break;
-            }
-            for turn in order {
-                if let Some(run) = &mut runs[turn] {
-                    best[turn] = best[turn].min(run());
-                }
-            }
-            order.reverse();
-        }
-        let [ours, theirs, copy] = best;
-        println!(
-            "| {:<44} | {:<8} | {} | {} | {} | {} | {} |",
+        let taken_off = case.making.is_some();
+        let [ours, whole, making, openjpeg, copy] = fastest([
+            Some(case.ours),
+            Some(case.theirs),
+            case.making,
+            case.openjpeg,
+            Some(case.copy),
+        ]);
+        let theirs = if taken_off { whole - making } else { whole };
+        self.line([
             case.name,
-            case.buffers,
-            number(1e6 * ours, 11),
-            number(1e6 * theirs, 11),
-            number(1e6 * copy, 11),
-            number(ours / theirs, 10),
-            number(ours / copy, 9),
-        );
+            case.buffers.to_owned(),
+            number(1e6 * ours),
+            number(1e6 * theirs),
+            number(1e6 * openjpeg),
+            number(1e6 * copy),
+            number(ours / theirs),
+            number(ours / openjpeg),
+            number(ours / copy),
+        ]);
     }
 
     pub fn end(&self) {
-        println!();
-        for line in NOTES {
-            println!("{line}");
+        if self.explained {
+            println!();
+            println!("OpenJPEG: {ORIGIN}.");
+            for line in NOTES {
+                println!("{line}");
+            }
         }
     }
 }
 
-const NOTES: [&str; 12] = [
-    "Buffers: hot, all in the cache from the run before; touched, the memory of the finished records and samples was",
-    "written before the time began; fresh, it is new memory that is first written while the time runs. The files and",
-    "samples handed in were written before in every case.",
-    "Ours reads the file and finishes the picture. The crate reads, then finishes in place; its picture is made before",
-    "the time begins, and let go after it ends. The planes that a palette gives are allocated by the crate while the",
-    "time runs; touched ones have memory that other planes had in the round before. Without a palette the crate copies",
-    "no sample, where ours writes all finished samples to their destination: there ours/copy is the ratio to look at.",
-    "Copy is a plain copy (memcpy) of the bytes of the file, or of the finished samples to the destination that ours",
-    "writes to. A reorder is of components without samples, so there is nothing to copy.",
-    "Ours, crate and copy take turns, forth and back, so that ours and copy each have rounds right after their own.",
-    "Before a case is timed both answers are compared.",
+/// The fewest seconds of each. They take turns forth and back, so that each of the two that write the same destination
+/// has runs right after its own.
+fn fastest(mut runs: [Option<Run>; 5]) -> [f64; 5] {
+    let mut best = [f64::INFINITY; 5];
+    let mut order = [0, 1, 2, 3, 4];
+    let start = Instant::now();
+    for round in 0..ROUNDS {
+        if round > 1 && start.elapsed() > LONG {
+            break;
+        }
+        for turn in order {
+            if let Some(run) = &mut runs[turn] {
+                best[turn] = best[turn].min(run());
+            }
+        }
+        order.reverse();
+    }
+    best
+}
+
+/// Where OpenJPEG's source is from.
+const ORIGIN: &str = match option_env!("OPENJPEG_ORIGIN") {
+    Some(origin) => origin,
+    None => "left out, bench/build-openjpeg has said why",
+};
+
+const NOTES: [&str; 22] = [
+    "Buffers: hot, all in the cache from the run before; touched, the memory of what is written was written before",
+    "the time began; fresh, it is new memory that is first written while the time runs. The files and samples handed",
+    "in were written before in every case.",
+    "Ours reads the file and finishes the picture. The crate and OpenJPEG read, then finish in place; their picture is",
+    "made before the time begins, and let go after it ends. The planes that a palette gives are allocated by them",
+    "while the time runs; touched ones have memory that other planes had in the round before. Without a palette they",
+    "copy no sample, where ours writes all finished samples to their destination: there ours/copy is the ratio to look",
+    "at.",
+    "Mixed is a palette of four columns, of which three are looked up in the first of two components and the fourth is",
+    "the second component itself.",
     "With 65535 definitions nearly each of them moves a channel.",
+    "Writing is of all boxes before a codestream, and of its box's header. Ours is handed the components as numbers,",
+    "OpenJPEG as a picture that was made before. The crate's run makes its picture; how long that takes alone is timed",
+    "in the same rounds, and taken off.",
+    "OpenJPEG's and the crate's codestream part is a stand-in that does nothing. What has to be let go again is let go",
+    "within the time, but for pictures.",
+    "Copy is a plain copy (memcpy) of the bytes of the file that is read, of the finished samples to the destination",
+    "that ours writes to, of the finished records where there are no samples (reorder), or of the written bytes.",
+    "All take turns, forth and back, so that ours and copy each have rounds right after their own.",
+    "Before a case is timed all answers are compared.",
+    "A dash stands for what was not there to be timed.",
+    "Figures of one run are held against each other, not against those of another.",
 ];
 
 /// A number with about four digits, or a dash where there is none.
-fn number(value: f64, width: usize) -> String {
+fn number(value: f64) -> String {
     if value.is_infinite() || value == 0.0 {
-        return format!("{:>width$}", "-");
+        return "-".to_owned();
     }
     let digits = match value {
         ..0.1 => 5,
@@ -102,5 +178,5 @@ fn number(value: f64, width: usize) -> String {
         ..1000.0 => 1,
         _ => 0,
     };
-    format!("{value:>width$.digits$}")
+    format!("{value:.digits$}")
 }
