@@ -1,0 +1,11 @@
+// Document 01's refusals in words.
+#ifndef DEMO_CAUSES_H
+#define DEMO_CAUSES_H
+
+#include <stdint.h>
+#include <stdio.h>
+
+// "27, a mapping fails, mapping 1"
+void print_refusal(FILE *to, uint64_t number, uint64_t place);
+
+#endif

@@ -1,0 +1,26 @@
+// What a finished plane shows, by the file's definitions.
+#ifndef DEMO_MEANING_H
+#define DEMO_MEANING_H
+
+#include "finish.h"
+
+enum sense { SENSE_COLOUR, SENSE_OPACITY, SENSE_PREMULTIPLIED, SENSE_UNSPECIFIED, SENSE_OTHER };
+
+#define NO_CHANNEL UINT32_C(4294967295)
+
+struct meaning {
+  enum sense sense;
+  uint32_t colour;  // the number of the colour, from 1; of opacity, the colour that it belongs to, 0 for the whole picture
+  uint32_t channel; // where its samples come from
+  char name[40];    // for file names
+};
+
+struct meaning meaning_of(struct bytes file, const uint64_t *reading, const struct finished *f, uint32_t plane);
+
+// Colours that the boxes call sRGB.
+bool is_rgb(const uint64_t *reading);
+
+// The mark that a plane of this meaning has by Annex I.
+uint32_t mark_of(const struct meaning *m);
+
+#endif

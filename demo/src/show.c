@@ -1,0 +1,103 @@
+#include "show.h"
+
+#include <errno.h>
+#include <inttypes.h>
+#include <stdio.h>
+#include <string.h>
+
+#include "meaning.h"
+#include "netpbm.h"
+
+enum { PATH_LEN = 4096 };
+
+static bool told(const char *path, struct written w, bool quiet)
+{
+  if (w.outcome == NOT_WRITTEN_FILE) {
+    fprintf(stderr, "demo: %s cannot be written: %s\n", path, strerror(errno));
+    return false;
+  }
+  if (quiet) {
+    return true;
+  }
+  if (w.outcome == NOT_WRITTEN_DEPTH) {
+    printf(", no PGM: more than 32 bits");
+  } else if (w.outcome == NOT_WRITTEN_EMPTY) {
+    printf(", no PGM: it has no samples");
+  } else {
+    printf(", %s", strrchr(path, '/') + 1);
+  }
+  if (w.outcome == WRITTEN && w.scaled) {
+    printf(" with the 16 high bits");
+  }
+  if (w.clamped > 0) {
+    printf(", where %" PRIu64 " samples outside the precision are held at its ends", w.clamped);
+  }
+  return true;
+}
+
+static void describe(const struct finished *f, uint32_t p, const struct meaning *m)
+{
+  printf("  plane %" PRIu32 ": %s", p, m->name);
+  if (m->channel != NO_CHANNEL) {
+    printf(" from channel %" PRIu32, m->channel);
+  }
+  uint32_t prec = plane_number(f, p, COMP_PREC);
+  printf(", %" PRIu32 " by %" PRIu32 ", %" PRIu32 " bit%s%s", plane_number(f, p, COMP_W), plane_number(f, p, COMP_H), prec,
+         prec == 1 ? "" : "s", plane_number(f, p, COMP_SGND) != 0 ? " signed" : "");
+  if (plane_number(f, p, COMP_DX) != 1 || plane_number(f, p, COMP_DY) != 1) {
+    printf(", one sample for %" PRIu32 " by %" PRIu32, plane_number(f, p, COMP_DX), plane_number(f, p, COMP_DY));
+  }
+  if (m->sense == SENSE_COLOUR && m->colour != p + 1) {
+    printf(", though colour %" PRIu32 " belongs in plane %" PRIu32, m->colour, m->colour - 1);
+  }
+  // A later swap may take the mark from the record that was marked before. The crate, OpenJPEG and document 01 agree on that.
+  if (plane_number(f, p, COMP_ALPHA) != mark_of(m)) {
+    printf(", its mark is %" PRIu32 " where its definition says %" PRIu32, plane_number(f, p, COMP_ALPHA), mark_of(m));
+  }
+}
+
+static bool show_plane(struct place to, bool quiet, const struct finished *f, uint32_t p, const struct meaning *m)
+{
+  char path[PATH_LEN];
+  bool fine = true;
+  if (!quiet) {
+    describe(f, p, m);
+  }
+  if (to.folder != NULL) {
+    snprintf(path, sizeof path, "%s/%s.plane%" PRIu32 "-%s.pgm", to.folder, to.name, p, m->name);
+    fine = told(path, write_pgm(path, f, p), quiet);
+  }
+  if (!quiet) {
+    printf("\n");
+  }
+  return fine;
+}
+
+static bool show_colours(struct place to, bool quiet, const struct finished *f)
+{
+  char path[PATH_LEN];
+  snprintf(path, sizeof path, "%s/%s.rgb.ppm", to.folder, to.name);
+  if (!quiet) {
+    printf("  planes 0, 1, 2 together");
+  }
+  bool fine = told(path, write_ppm(path, f), quiet);
+  if (!quiet) {
+    printf("\n");
+  }
+  return fine;
+}
+
+bool show_planes(struct place to, bool quiet, struct bytes file, const uint64_t *reading, const struct finished *f)
+{
+  bool fine = true;
+  bool colours = is_rgb(reading) && fit_together(f);
+  for (uint32_t p = 0; p < planes_of(f); p++) {
+    struct meaning m = meaning_of(file, reading, f, p);
+    colours = colours && (p >= 3 || (m.sense == SENSE_COLOUR && m.colour == p + 1));
+    fine = show_plane(to, quiet, f, p, &m) && fine;
+  }
+  if (colours && to.folder != NULL) {
+    fine = show_colours(to, quiet, f) && fine;
+  }
+  return fine;
+}
