@@ -22,7 +22,7 @@ abbrev pub marked : ℕ → ℕ → Arranged → Arranged
 marked p typ a = record { seat = a .seat; records = λ r k. table (r =? p and k =? 12 ⇒ typ ∣ otherwise (a .records r k)) }
 
 -- one definition. A current position, or a wanted one, without a record passes it over; asoc 0 or 65535 only marks; a colour's record swaps to its place, and the
--- record that is then at the old position takes the mark.
+-- record that is then at the old position takes the mark (difference 31).
 unfoldable pub define : ℕ → Def → Arranged → Arranged
 define n d a =
     let p = a .seat (d .channel) in

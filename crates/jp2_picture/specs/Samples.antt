@@ -20,7 +20,7 @@ floored (negsuc n) = 0
 abbrev pub held : ℤ → ℕ → ℕ
 held s last = least (floored s) last
 
--- an entry of 2^31 or more becomes itself minus 2^32
+-- an entry of 2^31 or more becomes itself minus 2^32; one of fewer bits is not extended by its sign (difference 30)
 unfoldable pub displayed : ℕ → ℤ
 displayed e = table (e <? 2147483648 ⇒ pos e ∣ otherwise (pos e -ℤ pos 4294967296))
 
