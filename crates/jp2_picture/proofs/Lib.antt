@@ -13,3 +13,4 @@ pub mod Distinct
 pub mod Mets
 pub mod Demand3
 pub mod Telling
+pub mod Refusals

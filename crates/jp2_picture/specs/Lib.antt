@@ -3,6 +3,7 @@ pub mod Channels
 pub mod Samples
 pub mod Check
 pub mod Finish
+pub mod Refusals
 pub mod Words
 pub mod PictureRule
 pub mod OrderFreedom

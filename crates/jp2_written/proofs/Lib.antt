@@ -7,3 +7,4 @@ pub mod Header
 pub mod Places
 pub mod Whole
 pub mod Back
+pub mod Refusals

@@ -10,5 +10,6 @@ pub mod Cdef
 pub mod Jp2h
 pub mod Stream
 pub mod Writing
+pub mod Refusals
 pub mod RoundTrip
 pub mod Cases
