@@ -1,0 +1,137 @@
+/*
+ * Measures how much stack each entry takes, and holds it to the bounds of the header.
+ *
+ *   stack PICTURE          PICTURE is a file with definitions or a palette
+ *
+ * An entry runs in a thread whose stack is filled with a pattern before. The deepest byte that has changed afterwards says
+ * how much was taken; what a thread takes that calls nothing is subtracted.
+ */
+#ifndef _DEFAULT_SOURCE
+#define _DEFAULT_SOURCE
+#endif
+
+#include "cuzhantir_jp2.h"
+
+#include <pthread.h>
+#include <stdio.h>
+#include <stdlib.h>
+#include <string.h>
+
+#define STACK_BYTES (1024 * 1024)
+#define PATTERN 0xa5
+#define MOST 16384
+
+static uint8_t file[65536];
+static size_t file_len;
+static uint64_t reading[CUZHANTIR_READING_LENGTH];
+static uint64_t answer[CUZHANTIR_ANSWER_LENGTH];
+static uint32_t comps[MOST * CUZHANTIR_COMPONENT_LENGTH];
+static uint32_t records[MOST * CUZHANTIR_COMPONENT_LENGTH];
+static const int32_t samples[1] = {1};
+static int32_t planes[MOST];
+static uint32_t count;
+static uint32_t ignore;
+static uint32_t returned;
+static uint8_t written[262144];
+
+static void calls_nothing(void) {
+}
+
+static void reads(void) {
+  returned = cuzhantir_read(file, file_len, reading, CUZHANTIR_READING_LENGTH);
+}
+
+static void finishes(void) {
+  returned = cuzhantir_finish(file, file_len, reading, CUZHANTIR_READING_LENGTH, ignore, comps,
+                              sizeof comps / sizeof comps[0], count, samples, 1, records,
+                              sizeof records / sizeof records[0], planes, MOST, answer, CUZHANTIR_ANSWER_LENGTH);
+}
+
+static void reads_and_finishes(void) {
+  returned =
+      cuzhantir_picture(file, file_len, ignore, comps, sizeof comps / sizeof comps[0], count, samples, 1, records,
+                        sizeof records / sizeof records[0], planes, MOST, answer, CUZHANTIR_ANSWER_LENGTH);
+}
+
+static void writes(void) {
+  returned = cuzhantir_write(comps, sizeof comps / sizeof comps[0], count, 0, 0, 1, 1, CUZHANTIR_SPACE_SRGB, NULL, 0, 0,
+                             written, sizeof written, answer, CUZHANTIR_ANSWER_LENGTH);
+}
+
+typedef void (*job)(void);
+
+static void *run(void *chosen) {
+  (*(job *)chosen)();
+  return NULL;
+}
+
+static void give_up(const char *why) {
+  fprintf(stderr, "stack: %s\n", why);
+  exit(2);
+}
+
+/* How many bytes of its stack a thread changed. */
+static size_t taken(job j) {
+  static unsigned char *stack = NULL;
+  pthread_attr_t attributes;
+  pthread_t thread;
+  size_t unchanged = 0;
+  if (stack == NULL) {
+    stack = (unsigned char *)aligned_alloc(4096, STACK_BYTES);
+  }
+  if (stack == NULL) {
+    give_up("no memory");
+  }
+  memset(stack, PATTERN, STACK_BYTES);
+  if (pthread_attr_init(&attributes) != 0 || pthread_attr_setstack(&attributes, stack, STACK_BYTES) != 0 ||
+      pthread_create(&thread, &attributes, run, &j) != 0 || pthread_join(thread, NULL) != 0) {
+    give_up("no thread");
+  }
+  pthread_attr_destroy(&attributes);
+  while (unchanged < STACK_BYTES && stack[unchanged] == PATTERN) {
+    unchanged++;
+  }
+  return STACK_BYTES - unchanged;
+}
+
+/* Whether an entry was taken to an end, in so many bytes of stack at most. */
+static int within(const char *what, job j, size_t bound) {
+  size_t own = taken(calls_nothing);
+  size_t all = taken(j);
+  size_t used = all > own ? all - own : 0;
+  int fits = returned == CUZHANTIR_DONE && used > 0 && used <= bound;
+  printf("%-44s %6zu bytes of %6zu%s\n", what, used, bound, fits ? "" : ": does not hold");
+  return fits;
+}
+
+/* Components of one sample, which they share. */
+static void set_components(uint32_t n) {
+  uint32_t c;
+  memset(comps, 0, sizeof comps);
+  for (c = 0; c < n; c++) {
+    comps[c * CUZHANTIR_COMPONENT_LENGTH + CUZHANTIR_COMPONENT_PREC] = 8;
+    comps[c * CUZHANTIR_COMPONENT_LENGTH + CUZHANTIR_COMPONENT_W] = 1;
+    comps[c * CUZHANTIR_COMPONENT_LENGTH + CUZHANTIR_COMPONENT_H] = 1;
+  }
+  count = n;
+}
+
+int main(int argc, char **argv) {
+  FILE *f = argc == 2 ? fopen(argv[1], "rb") : NULL;
+  int holds = 1;
+  if (f == NULL) {
+    give_up("usage: stack PICTURE");
+  }
+  file_len = fread(file, 1, sizeof file, f);
+  fclose(f);
+  holds &= within("reading", reads, CUZHANTIR_STACK_READ);
+  set_components((uint32_t)reading[CUZHANTIR_READING_NUMCOMPS]);
+  holds &= within("finishing", finishes, CUZHANTIR_STACK_FINISH);
+  holds &= within("reading and finishing", reads_and_finishes, CUZHANTIR_STACK_FINISH);
+  ignore = 1;
+  set_components(MOST);
+  holds &= within("finishing, 16384 components", finishes, CUZHANTIR_STACK_FINISH);
+  holds &= within("reading and finishing, 16384 components", reads_and_finishes, CUZHANTIR_STACK_FINISH);
+  holds &= within("writing, 16384 components", writes, CUZHANTIR_STACK_READ);
+  return holds ? 0 : 1;
+}
