@@ -3,7 +3,7 @@
 #include <inttypes.h>
 #include <stdio.h>
 
-static const char *const names[COMP_LEN] = {"dx",  "dy",   "width", "height",        "x0",     "y0",      "precision",
+static const char *const names[CUZHANTIR_COMPONENT_LENGTH] = {"dx",  "dy",   "width", "height",        "x0",     "y0",      "precision",
                                             "bpp", "sign", "resolutions", "factor", "samples", "opacity mark"};
 
 static void say_number(struct difference *d, uint32_t plane, unsigned k, uint32_t ours, uint32_t theirs)
@@ -16,7 +16,7 @@ static void say_number(struct difference *d, uint32_t plane, unsigned k, uint32_
 static void say_sample(struct difference *d, const struct finished *f, uint32_t plane, uint64_t i, int32_t ours,
                        int32_t theirs)
 {
-  uint32_t w = plane_number(f, plane, COMP_W);
+  uint32_t w = plane_number(f, plane, CUZHANTIR_COMPONENT_W);
   d->found = true;
   snprintf(d->text, sizeof d->text,
            "plane %" PRIu32 ", row %" PRIu64 ", column %" PRIu64 ": ours %" PRId32 ", OpenJPEG's %" PRId32, plane, i / w,
@@ -26,10 +26,10 @@ static void say_sample(struct difference *d, const struct finished *f, uint32_t 
 // Where samples start is ours to say. OpenJPEG has a pointer there, so that is only compared for being there.
 static void compare_numbers(struct difference *d, const struct finished *f, uint32_t plane, const opj_image_comp_t *other)
 {
-  uint32_t theirs[COMP_LEN];
-  uint32_t first = plane_number(f, plane, COMP_FIRST);
-  numbers_of(other, first == NO_SAMPLES ? 0 : first, theirs);
-  for (unsigned k = 0; k < COMP_LEN && !d->found; k++) {
+  uint32_t theirs[CUZHANTIR_COMPONENT_LENGTH];
+  uint32_t first = plane_number(f, plane, CUZHANTIR_COMPONENT_DATA);
+  numbers_of(other, first == CUZHANTIR_NO_SAMPLES ? 0 : first, theirs);
+  for (unsigned k = 0; k < CUZHANTIR_COMPONENT_LENGTH && !d->found; k++) {
     uint32_t ours = plane_number(f, plane, k);
     if (ours != theirs[k]) {
       say_number(d, plane, k, ours, theirs[k]);

@@ -5,7 +5,7 @@
 #include <openjpeg.h>
 
 #include "file.h"
-#include "port.h"
+#include "cuzhantir_jp2.h"
 
 // Components as the library takes them: numbers, and all samples in one list.
 struct components {
@@ -16,7 +16,7 @@ struct components {
 };
 
 struct finished {
-  uint64_t answer[ANSWER_LEN];
+  uint64_t answer[CUZHANTIR_ANSWER_LENGTH];
   uint32_t *records;
   size_t records_len;
   int32_t *planes;
@@ -30,7 +30,8 @@ struct components components_of(const opj_image_t *image);
 
 void free_components(struct components *c);
 
-struct finished finish_picture(struct bytes file, uint32_t ignore, const struct components *c);
+// reading is what the library gave for the file.
+struct finished finish_picture(struct bytes file, const uint64_t *reading, uint32_t ignore, const struct components *c);
 
 void free_finished(struct finished *f);
 

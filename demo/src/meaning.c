@@ -14,12 +14,12 @@ struct definition {
 static uint32_t channel_of(const struct finished *f, uint32_t plane)
 {
   uint32_t before = 0;
-  uint32_t first = plane_number(f, plane, COMP_FIRST);
+  uint32_t first = plane_number(f, plane, CUZHANTIR_COMPONENT_DATA);
   for (uint32_t p = 0; p < planes_of(f); p++) {
-    if (plane_number(f, p, COMP_FIRST) == NO_SAMPLES || plane_size(f, p) == 0) {
+    if (plane_number(f, p, CUZHANTIR_COMPONENT_DATA) == CUZHANTIR_NO_SAMPLES || plane_size(f, p) == 0) {
       return NO_CHANNEL;
     }
-    before += plane_number(f, p, COMP_FIRST) < first;
+    before += plane_number(f, p, CUZHANTIR_COMPONENT_DATA) < first;
   }
   return before;
 }
@@ -27,8 +27,8 @@ static uint32_t channel_of(const struct finished *f, uint32_t plane)
 // The file's first definition of a channel: 6 bytes each, channel, typ, asoc.
 static bool definition_of(struct bytes file, const uint64_t *reading, uint32_t channel, struct definition *d)
 {
-  for (uint64_t i = 0; i < reading[READING_CDEF_COUNT]; i++) {
-    uint64_t place = reading[READING_CDEF] + 6 * i;
+  for (uint64_t i = 0; i < reading[CUZHANTIR_READING_CDEF_COUNT]; i++) {
+    uint64_t place = reading[CUZHANTIR_READING_CDEF_PLACE] + 6 * i;
     if (two_bytes(file, place) == channel) {
       d->typ = two_bytes(file, place + 2);
       d->asoc = two_bytes(file, place + 4);
@@ -40,12 +40,12 @@ static bool definition_of(struct bytes file, const uint64_t *reading, uint32_t c
 
 bool is_rgb(const uint64_t *reading)
 {
-  return reading[READING_METH] == METH_ENUMERATED && reading[READING_ENUMCS] == ENUMCS_SRGB;
+  return reading[CUZHANTIR_READING_METH] == METH_ENUMERATED && reading[CUZHANTIR_READING_ENUMCS] == ENUMCS_SRGB;
 }
 
 static bool is_grey(const uint64_t *reading)
 {
-  return reading[READING_METH] == METH_ENUMERATED && reading[READING_ENUMCS] == ENUMCS_GREY;
+  return reading[CUZHANTIR_READING_METH] == METH_ENUMERATED && reading[CUZHANTIR_READING_ENUMCS] == ENUMCS_GREY;
 }
 
 // Without definitions channel i is colour i + 1 (I.5.3.6), as far as the colour space has colours.
@@ -123,7 +123,7 @@ struct meaning meaning_of(struct bytes file, const uint64_t *reading, const stru
 {
   struct meaning m = {.channel = channel_of(f, plane)};
   struct definition d;
-  if (reading[READING_CDEF_COUNT] == 0) {
+  if (reading[CUZHANTIR_READING_CDEF_COUNT] == 0) {
     name_by_place(reading, plane, &m);
   } else if (m.channel != NO_CHANNEL && definition_of(file, reading, m.channel, &d)) {
     name_by_definition(reading, d, &m);

@@ -44,15 +44,15 @@ static void put_level(FILE *to, uint32_t level, uint32_t prec)
 
 static void put_sample(FILE *to, const struct finished *f, uint32_t plane, uint64_t i, struct written *w)
 {
-  uint32_t prec = plane_number(f, plane, COMP_PREC);
-  bool sgnd = plane_number(f, plane, COMP_SGND) != 0;
+  uint32_t prec = plane_number(f, plane, CUZHANTIR_COMPONENT_PREC);
+  bool sgnd = plane_number(f, plane, CUZHANTIR_COMPONENT_SGND) != 0;
   int64_t level = level_of(plane_samples(f, plane)[i], prec, sgnd);
   put_level(to, clamped_level(level, prec, w), prec);
 }
 
 static int writable(const struct finished *f, uint32_t plane)
 {
-  uint32_t prec = plane_number(f, plane, COMP_PREC);
+  uint32_t prec = plane_number(f, plane, CUZHANTIR_COMPONENT_PREC);
   if (plane_samples(f, plane) == NULL || plane_size(f, plane) == 0) {
     return NOT_WRITTEN_EMPTY;
   }
@@ -61,9 +61,9 @@ static int writable(const struct finished *f, uint32_t plane)
 
 static void put_header(FILE *to, const char *magic, const struct finished *f, uint32_t plane)
 {
-  uint32_t bits = bits_written(plane_number(f, plane, COMP_PREC));
-  fprintf(to, "%s\n%" PRIu32 " %" PRIu32 "\n%" PRIu64 "\n", magic, plane_number(f, plane, COMP_W),
-          plane_number(f, plane, COMP_H), highest(bits));
+  uint32_t bits = bits_written(plane_number(f, plane, CUZHANTIR_COMPONENT_PREC));
+  fprintf(to, "%s\n%" PRIu32 " %" PRIu32 "\n%" PRIu64 "\n", magic, plane_number(f, plane, CUZHANTIR_COMPONENT_W),
+          plane_number(f, plane, CUZHANTIR_COMPONENT_H), highest(bits));
 }
 
 static void put_samples(FILE *to, const struct finished *f, uint32_t plane, uint32_t planes, struct written *w)
@@ -78,7 +78,7 @@ static void put_samples(FILE *to, const struct finished *f, uint32_t plane, uint
 static struct written write_planes(const char *path, const char *magic, const struct finished *f, uint32_t plane,
                                    uint32_t planes)
 {
-  struct written w = {writable(f, plane), plane_number(f, plane, COMP_PREC) > NETPBM_BITS, 0};
+  struct written w = {writable(f, plane), plane_number(f, plane, CUZHANTIR_COMPONENT_PREC) > NETPBM_BITS, 0};
   if (w.outcome != WRITTEN) {
     return w;
   }
@@ -113,9 +113,9 @@ bool fit_together(const struct finished *f)
   }
   bool fit = true;
   for (uint32_t p = 0; p < 3; p++) {
-    fit = fit && writable(f, p) == WRITTEN && plane_number(f, p, COMP_W) == plane_number(f, 0, COMP_W) &&
-          plane_number(f, p, COMP_H) == plane_number(f, 0, COMP_H) &&
-          plane_number(f, p, COMP_PREC) == plane_number(f, 0, COMP_PREC);
+    fit = fit && writable(f, p) == WRITTEN && plane_number(f, p, CUZHANTIR_COMPONENT_W) == plane_number(f, 0, CUZHANTIR_COMPONENT_W) &&
+          plane_number(f, p, CUZHANTIR_COMPONENT_H) == plane_number(f, 0, CUZHANTIR_COMPONENT_H) &&
+          plane_number(f, p, CUZHANTIR_COMPONENT_PREC) == plane_number(f, 0, CUZHANTIR_COMPONENT_PREC);
   }
   return fit;
 }

@@ -19,7 +19,7 @@ struct work {
   char stem[256];   // without ending too
   bool headed;      // the name was said
   struct bytes file;
-  uint64_t reading[READING_LEN];
+  uint64_t reading[CUZHANTIR_READING_LENGTH];
   struct result result;
 };
 
@@ -187,10 +187,10 @@ static void judge_finished(struct work *w, const struct finished *f, const struc
 static void finish(struct work *w, const opj_image_t *codestream)
 {
   struct components c = components_of(codestream);
-  struct finished f = finish_picture(w->file, w->options->wrong == WRONG_IGNORE, &c);
+  struct finished f = finish_picture(w->file, w->reading, w->options->wrong == WRONG_IGNORE, &c);
   make_wrong(w->options->wrong, &f);
   if (!is_finished(&f)) {
-    refused(w, f.answer[ANSWER_NUMBER], f.answer[ANSWER_PLACE]);
+    refused(w, f.answer[CUZHANTIR_ANSWER_NUMBER], f.answer[CUZHANTIR_ANSWER_PLACE]);
   } else {
     struct place to = {w->options->folder, w->stem};
     bool fine = show_planes(to, w->options->quiet, w->file, w->reading, &f);
@@ -212,7 +212,7 @@ static void not_decoded(struct work *w, uint64_t offset, const char *message)
 
 static void take_codestream(struct work *w)
 {
-  uint64_t offset = w->reading[READING_VALUE] + (w->options->wrong == WRONG_OFFSET);
+  uint64_t offset = w->reading[CUZHANTIR_READING_VALUE] + (w->options->wrong == WRONG_OFFSET);
   uint64_t at = offset < w->file.len ? offset : w->file.len;
   struct bytes codestream = {w->file.data + at, w->file.len - at};
   struct decoded d = decode_codestream(codestream);
@@ -230,11 +230,11 @@ static void take_codestream(struct work *w)
 
 static void take_file(struct work *w)
 {
-  cuzhantir_read(w->file.data, w->file.len, w->reading, READING_LEN);
-  switch (w->reading[READING_KIND]) {
-  case KIND_CODESTREAM: take_codestream(w); break;
-  case KIND_ENDED: ended(w); break;
-  default: refused(w, w->reading[READING_VALUE], w->reading[READING_PLACE]); break;
+  cuzhantir_read(w->file.data, w->file.len, w->reading, CUZHANTIR_READING_LENGTH);
+  switch (w->reading[CUZHANTIR_READING_KIND]) {
+  case CUZHANTIR_READING_CODESTREAM: take_codestream(w); break;
+  case CUZHANTIR_READING_ENDED: ended(w); break;
+  default: refused(w, w->reading[CUZHANTIR_READING_VALUE], w->reading[CUZHANTIR_READING_PLACE]); break;
   }
 }
 

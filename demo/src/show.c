@@ -41,18 +41,18 @@ static void describe(const struct finished *f, uint32_t p, const struct meaning 
   if (m->channel != NO_CHANNEL) {
     printf(" from channel %" PRIu32, m->channel);
   }
-  uint32_t prec = plane_number(f, p, COMP_PREC);
-  printf(", %" PRIu32 " by %" PRIu32 ", %" PRIu32 " bit%s%s", plane_number(f, p, COMP_W), plane_number(f, p, COMP_H), prec,
-         prec == 1 ? "" : "s", plane_number(f, p, COMP_SGND) != 0 ? " signed" : "");
-  if (plane_number(f, p, COMP_DX) != 1 || plane_number(f, p, COMP_DY) != 1) {
-    printf(", one sample for %" PRIu32 " by %" PRIu32, plane_number(f, p, COMP_DX), plane_number(f, p, COMP_DY));
+  uint32_t prec = plane_number(f, p, CUZHANTIR_COMPONENT_PREC);
+  printf(", %" PRIu32 " by %" PRIu32 ", %" PRIu32 " bit%s%s", plane_number(f, p, CUZHANTIR_COMPONENT_W), plane_number(f, p, CUZHANTIR_COMPONENT_H), prec,
+         prec == 1 ? "" : "s", plane_number(f, p, CUZHANTIR_COMPONENT_SGND) != 0 ? " signed" : "");
+  if (plane_number(f, p, CUZHANTIR_COMPONENT_DX) != 1 || plane_number(f, p, CUZHANTIR_COMPONENT_DY) != 1) {
+    printf(", one sample for %" PRIu32 " by %" PRIu32, plane_number(f, p, CUZHANTIR_COMPONENT_DX), plane_number(f, p, CUZHANTIR_COMPONENT_DY));
   }
   if (m->sense == SENSE_COLOUR && m->colour != p + 1) {
     printf(", though colour %" PRIu32 " belongs in plane %" PRIu32, m->colour, m->colour - 1);
   }
   // A later swap may take the mark from the record that was marked before. The crate, OpenJPEG and document 01 agree on that.
-  if (plane_number(f, p, COMP_ALPHA) != mark_of(m)) {
-    printf(", its mark is %" PRIu32 " where its definition says %" PRIu32, plane_number(f, p, COMP_ALPHA), mark_of(m));
+  if (plane_number(f, p, CUZHANTIR_COMPONENT_ALPHA) != mark_of(m)) {
+    printf(", its mark is %" PRIu32 " where its definition says %" PRIu32, plane_number(f, p, CUZHANTIR_COMPONENT_ALPHA), mark_of(m));
   }
 }
 

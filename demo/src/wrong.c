@@ -17,7 +17,7 @@ bool wrong_by_name(const char *word, enum wrong *w)
 
 static void swap_records(uint32_t *a, uint32_t *b)
 {
-  for (unsigned k = 0; k < COMP_LEN; k++) {
+  for (unsigned k = 0; k < CUZHANTIR_COMPONENT_LENGTH; k++) {
     uint32_t kept = a[k];
     a[k] = b[k];
     b[k] = kept;
@@ -30,12 +30,12 @@ void make_wrong(enum wrong w, struct finished *f)
     return;
   }
   uint32_t last = planes_of(f) - 1;
-  uint32_t *record = f->records + (size_t)last * COMP_LEN;
+  uint32_t *record = f->records + (size_t)last * CUZHANTIR_COMPONENT_LENGTH;
   switch (w) {
   case WRONG_SWAP: swap_records(f->records, record); break;
-  case WRONG_SAMPLE: f->planes[record[COMP_FIRST] + plane_size(f, last) - 1] ^= 1; break;
-  case WRONG_MARK: record[COMP_ALPHA] ^= 1; break;
-  case WRONG_PRECISION: record[COMP_PREC] += 1; break;
+  case WRONG_SAMPLE: f->planes[record[CUZHANTIR_COMPONENT_DATA] + plane_size(f, last) - 1] ^= 1; break;
+  case WRONG_MARK: record[CUZHANTIR_COMPONENT_ALPHA] ^= 1; break;
+  case WRONG_PRECISION: record[CUZHANTIR_COMPONENT_PREC] += 1; break;
   default: break;
   }
 }
