@@ -2,3 +2,4 @@ pub mod Placing
 pub mod Amiss
 pub mod Entries
 pub mod Columns
+pub mod Lookups

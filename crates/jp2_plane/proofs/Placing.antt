@@ -2,9 +2,10 @@
 -- Assumes nothing.
 use Prim.Native.Nat.{ℕ, zero, suc, _+_, _≤_, _<_}
 use native.Mathlib.Numerals.{add-one}
+use native.Mathlib.Omega.{arith}
 use mathlib.Core.Path.{_≡_, refl, ap, _∙_}
 use mathlib.Core.List.{List, [], _∷_, _++_, map}
-use lib.ListN.{length, take, drop, getD, set, length-set, length-append}
+use lib.ListN.{length, take, drop, getD, set, length-set, length-append, length-take, length-drop}
 use lib.Seq.{paste, paste-suc, paste-zero, length-take-le, take-append-seam, drop-append-add, drop-drop}
 use Rattle.jp2_plane.specs.Plane.{placed}
 
@@ -24,6 +25,11 @@ module _ {A : Type 0} (d : List A) (at : ℕ) (s : List A) where
   pub placing-all : (e : List A) (j n : ℕ) → Placing d at s e j → j ≡ n → n ≤ length s → e ≡ placed d at (take n s)
   unfolding placed
   placing-all e j n p q h = rw (length-take-le n s h, ← q) (p .pasted)
+
+  -- and the other way round
+  pub placing-from : {e : List A} (j : ℕ) → j ≤ length s → at + j ≤ length d → e ≡ placed d at (take j s) → Placing d at s e j
+  unfolding placed
+  placing-from j h r q = record { pasted = q ∙ rw (length-take-le j s h); long = ap length q ∙ simp (length-append, length-take, length-drop) (omega arith) }
 
 -- one piece after another: xs stand in front, and ys are placed after them
 pub placed-after : {A : Type 0} (d xs ys : List A) → placed (xs ++ drop (length xs) d) (length xs) ys ≡ xs ++ ys ++ drop (length (xs ++ ys)) d

@@ -1,58 +1,37 @@
--- `jp2_plane::lookup_inside` meets its contract. Before turn k the first k samples stand in the destination.
+-- `jp2_plane::lookup_inside` meets its contract.
 -- Assumes nothing.
-use Prim.Native.Nat.{ℕ, _≤_, _-_}
 use native.Mathlib.Omega.{arith}
-use mathlib.Core.Path.{sym, ap, _∙_}
-use mathlib.Core.List.{map}
-use lib.IntN.{pos}
-use lib.ListN.{getD, drop, length-drop, length-map, List·getD-map}
-use lib.Seq.{getD-drop}
-use mir.Facts.{toZ-ofZ}
-use borrow.Author.Needs.{sfits-of}
-use Rattle.jp2_plane.specs.Plane.{placed, entryFor}
-use Rattle.jp2_plane.proofs.Placing.{Placing, placing-none, placing-more, placing-all, take-map}
-use Rattle.jp2_plane.proofs.Columns.{least-most}
+use Prim.Native.Nat.{_-_, _≤_}
+use mathlib.Core.Path.{_≡_, refl}
+use mathlib.Core.List.{List, map}
+use lib.IntN.{ℤ}
+use lib.ListN.{length, drop}
+use Rattle.jp2_plane.specs.Plane.{entryFor}
+use Rattle.jp2_plane.proofs.Placing.{Placing}
+use Rattle.jp2_plane.proofs.Lookups.{look-from, look-next, look-all}
 use Rattle.jp2_plane.proofs.lookup_inside.Statement.{statement}
 use Rattle.jp2_plane.proofs.lookup_inside.Tie as tie
 
 abbrev Inv-loop : tie.InvT-loop
-Inv-loop entries last src from n dst₀ at k₀ dst k = (k ≤ n) × Placing dst₀ at (map (entryFor entries last) (drop from src)) dst k
+Inv-loop entries last src from n dst₀ at k₀ dst k = (k ≤ n) × (length dst ≡ length dst₀) × ((d : List ℤ) → Placing d at (map (entryFor entries last) (drop from src)) dst₀ k₀ → Placing d at (map (entryFor entries last) (drop from src)) dst k)
 
 abbrev μ-loop : tie.MeasureT-loop
 μ-loop entries last src from n dst₀ at k₀ dst k = n - k
 
+lookup-fours-requires : tie.Need-lookup-fours-requires Inv-loop μ-loop
+lookup-fours-requires c κs = let b = c .before in b .pre
+
 loop-holds : tie.Need-loop-holds Inv-loop μ-loop
-loop-holds c = let a = c .args in (omega arith, placing-none (a .dst .now) (a .at) (map (entryFor (a .entries .now) (a .last)) (drop (a .from) (a .src .now))))
+loop-holds c = (c .before .lookup-fours .ensures .0, refl, λ d p. p)
 
-add-held : tie.Need-add-held Inv-loop μ-loop
-add-held c = omega arith
+add-look-up : tie.Need-add-look-up Inv-loop μ-loop
+add-look-up c = omega arith
 
-mul-held : tie.Need-mul-held Inv-loop μ-loop
-mul-held c = omega arith
+add-look-up-2 : tie.Need-add-look-up-2 Inv-loop μ-loop
+add-look-up-2 c = omega arith
 
-shared-slice-copy-out-held : tie.Need-shared-slice-copy-out-held Inv-loop μ-loop
-shared-slice-copy-out-held c = omega arith
-
-held-requires : tie.Need-held-requires Inv-loop μ-loop
-held-requires c κs = tt
-
-cast-e : tie.Need-cast-e Inv-loop μ-loop
-cast-e c = omega (arith, least-most _ _ (c .held .ensures))
-
-mul-dst : tie.Need-mul-dst Inv-loop μ-loop
-mul-dst c = omega (arith, least-most _ _ (c .held .ensures))
-
-element-copy-out-dst : tie.Need-element-copy-out-dst Inv-loop μ-loop
-element-copy-out-dst c = omega (arith, least-most _ _ (c .held .ensures))
-
-add-t13 : tie.Need-add-t13 Inv-loop μ-loop
-add-t13 c = omega arith
-
-mul-t18 : tie.Need-mul-t18 Inv-loop μ-loop
-mul-t18 c = omega arith
-
-slice-set-from-dst : tie.Need-slice-set-from-dst Inv-loop μ-loop
-slice-set-from-dst c = omega arith
+look-up-requires : tie.Need-look-up-requires Inv-loop μ-loop
+look-up-requires c κs = (omega arith, omega arith, omega arith)
 
 add-k : tie.Need-add-k Inv-loop μ-loop
 add-k c = omega arith
@@ -62,31 +41,20 @@ loop-less c = omega arith
 
 loop-again : tie.Need-loop-again Inv-loop μ-loop
 loop-again c =
-    let l = c .before .before .before .before in
-    let a = l .before .args in
-    let f = entryFor (a .entries .now) (a .last) in
-    let s = drop (a .from) (a .src .now) in
-    let k = l .loop .k in (
-      omega arith,
-      placing-more (a .dst .now) (a .at) (map f s) (l .loop .dst) k (f (pos 0)) _ (l .loop .inv .1) (omega arith)
-          (simp (length-map, length-drop) (omega arith))
-          (toZ-ofZ (sfits-of (c .dst .given))
-          ∙ ap (λ (e : ℕ). getD (a .entries .now) e (pos 0)) (c .before .held .ensures)
-          ∙ ap f (toZ-ofZ (sfits-of (c .before .before .held-arg .given)) ∙ sym (getD-drop (a .from) (a .src .now) k (pos 0)))
-          ∙ sym (List·getD-map f s k (pos 0))),
-    )
+    let l = c .before .before .before .before .loop in
+    let a = c .before .before .before .before .before .before .before .before .args in
+    (omega arith, omega arith, λ d p. look-next (a .entries .now) (a .last) (a .src .now) (a .from) d (a .at) (l .k) (l .inv .2 d p) refl refl (omega arith) (omega (arith, p .long)) (c .before .look-up .ensures))
 
 same-length : tie.Need-same-length Inv-loop μ-loop
 same-length c = omega arith
 
 returns : tie.Need-returns Inv-loop μ-loop
 returns c =
-    let l = c .before in
-    let a = l .before .args in
-    let f = entryFor (a .entries .now) (a .last) in
-    let s = drop (a .from) (a .src .now) in
-    placing-all (a .dst .now) (a .at) (map f s) (l .loop .dst) (l .loop .k) (a .n) (l .loop .inv .1) (omega arith) (simp (length-map, length-drop) (omega arith))
-    ∙ ap (placed (a .dst .now) (a .at)) (take-map f (a .n) s)
+    let l = c .before .loop in
+    let a = c .before .before .before .before .before .args in
+    let e = c .before .before .before .lookup-fours .ensures in
+    let p = look-from (a .entries .now) (a .last) (a .src .now) (a .from) (a .dst .now) (a .at) (c .before .before .before .lookup-fours .result) (omega (arith, e .0)) (omega (arith, e .0)) (e .1) in
+    look-all (a .entries .now) (a .last) (a .src .now) (a .from) (a .dst .now) (a .at) (l .k) (a .n) (l .inv .2 (a .dst .now) p) (omega arith) (omega arith)
 
 pub lookup-inside-spec : {M : Type 1} → statement M
 lookup-inside-spec =
@@ -94,17 +62,11 @@ lookup-inside-spec =
     (tie.spec
     Inv-loop
     μ-loop
+    lookup-fours-requires
     loop-holds
-    add-held
-    mul-held
-    shared-slice-copy-out-held
-    held-requires
-    cast-e
-    mul-dst
-    element-copy-out-dst
-    add-t13
-    mul-t18
-    slice-set-from-dst
+    add-look-up
+    add-look-up-2
+    look-up-requires
     add-k
     loop-less
     loop-again
