@@ -1,4 +1,4 @@
--- One turn of the walk: the box that c starts with is split off and run.
+-- One turn of the walk: what stands at c tells how its boxes run.
 -- Assumes nothing.
 use Prim.Native.Nat.{ℕ, suc, _+_, _≤_, _<_}
 use native.Mathlib.Omega.{arith}
@@ -12,36 +12,29 @@ use Rattle.jp2_cio.specs.Table.{table}
 use Rattle.jp2_cio.proofs.Rows.{row, each}
 use Rattle.jp2_box.specs.Kind.{kindOf, numberOf}
 use Rattle.jp2_box.specs.declared.header.Jp2BoxHeader.{Jp2BoxHeader}
-use Rattle.jp2_box.specs.Box.{LBox, TBox, headerLength, boxLength}
+use Rattle.jp2_box.specs.Box.{LBox, TBox, headerLength, boxLength, headerOf}
 use Rattle.jp2_box.specs.declared.consts.Jp2BoxType.{Jp2BoxType}
 use Rattle.jp2_box.proofs.consts.Jp2BoxType.{the-type}
 use Rattle.jp2_box.proofs.KindNumbers.{is-kind, not-kind}
 use Rattle.jp2_box.proofs.Headers.{box-all}
 use Rattle.jp2_record.specs.declared.Jp2.{Jp2}
-use Rattle.jp2_record.specs.declared.Outcome.{Outcome}
-use Rattle.jp2_record.specs.declared.Answer.the-variants.{Done, Refused}
-use Rattle.jp2_record.specs.Answer.{Result, accepted, refused, answer}
-use Rattle.jp2_record.proofs.Told.{answer-done, answer-refused}
+use Rattle.jp2_record.specs.Answer.{Result, accepted, refused}
 use Rattle.jp2_walk.specs.Split.{Boxes, firstBox, split}
 use Rattle.jp2_walk.specs.Step.{Heads}
 use Rattle.jp2_walk.proofs.Faults.{split-none}
-use Rattle.jp2_file.specs.declared.Turn.{Turn}
-use Rattle.jp2_file.specs.declared.Step.{Step}
-use Rattle.jp2_file.specs.declared.Step.the-variants.{Next, Reached, Over, TurnedDown}
-use Rattle.jp2_file.specs.File.{Walked, codestream, ended, turnedDown, thenWalk, stream, pastEnd, outer, run}
-use Rattle.jp2_file.specs.Turn.{box, inner, stops, goesOn, turn}
+use Rattle.jp2_file.specs.declared.Reading.{Reading}
+use Rattle.jp2_file.specs.declared.Found.{Found}
+use Rattle.jp2_file.specs.declared.Found.the-variants.{Nothing, Codestream, Short, Past, Whole}
+use Rattle.jp2_file.specs.File.{Walked, ended, turnedDown, thenWalk, stream, pastEnd, outer, run, reading}
+use Rattle.jp2_file.specs.Turn.{found, box, boxAt, inner, pastKind}
 
--- an end of the walk is what its definition says
-pub stop : (k : Jp2) (w v : Walked) {t : Turn} → t ≡ stops k w → w ≡ v → t ≡ stops k v
-stop k w v e f = e ∙ ap (stops k) f
+-- what was answered is what the definition says; where the file has ended, whatever the record before it
+pub gives : (j : Jp2) (w v : Walked) {r : Reading} → r ≡ reading j w → w ≡ v → r ≡ reading j v
+gives j w v e f = e ∙ ap (reading j) f
 
--- a box was read, or turned down
-module _ (size : ℕ) (k : Jp2) (x : Result) {o : Outcome} (e : o ≡ answer k x) where
-  pub went : o .answer ≡ Done → record { step = Next size; jp2 = o .jp2 } ≡ goesOn size k x
-  went d = rw (answer-done k x e d)
-
-  pub went-not : {t : Turn} {n p : ℕ} → o .answer ≡ Refused n p → t ≡ stops k (turnedDown n p) → t ≡ goesOn size k x
-  went-not d f = rw (answer-refused k x e d) f
+pub gives-end : (j k : Jp2) (v : Walked) {r : Reading} → r ≡ reading k (ended k) → ended k ≡ v → r ≡ reading j v
+unfolding reading
+gives-end j k v e f = e ∙ ap (reading j) f
 
 -- the tags of the kinds other than jP, ftyp and jp2h
 abbrev pub others : List ℕ
@@ -73,23 +66,15 @@ then-same (accepted m) f g h = h m
 then-same (refused n p) f g h = refl
 
 module _ (at : ℕ) (c : List ℕ) (k : Jp2) where
-  -- no header: the walk has ended
-  pub turn-none : (headerLength c ≤ length c → 4294967295 < boxLength c) → stops k (ended k) ≡ turn at c k
-  unfolding turn
-  turn-none m = each (λ (t : Turn). stops k (ended k) ≡ t) _ ((λ h. refl), λ h. ((λ l. refl), λ l. absurd (omega (arith, m h))))
-
   module _ (n : ℕ) (some : 0 < length c) where
     -- the boxes of c run to w
     abbrev Runs : Walked → Type 0
     Runs w = run (split (suc n) at c) k ≡ w
 
-    run-cut : length c < headerLength c → Runs (ended k)
+    -- no header: the walk has ended
+    run-none : (headerLength c ≤ length c → 4294967295 < boxLength c) → Runs (ended k)
     unfolding split run
-    run-cut h = each (λ (bs : Boxes). run bs k ≡ ended k) _ ((λ z. refl), λ z. ((λ l. refl), λ l. absurd (omega arith)))
-
-    run-high : headerLength c ≤ length c → 4294967295 < boxLength c → Runs (ended k)
-    unfolding split run
-    run-high a h = each (λ (bs : Boxes). run bs k ≡ ended k) _ ((λ z. refl), λ z. ((λ l. refl), λ l. ((λ m. refl), λ m. absurd (omega arith))))
+    run-none h = each (λ (bs : Boxes). run bs k ≡ ended k) _ ((λ z. refl), λ z. ((λ l. refl), λ l. ((λ m. refl), λ m. absurd (omega (arith, h l)))))
 
     module _ (a : headerLength c ≤ length c) (b : boxLength c ≤ 4294967295) where
       run-stream : TBox c ≡ 0x6a703263 → Runs (stream (firstBox at c) k)
@@ -180,40 +165,26 @@ module _ (at : ℕ) (c : List ℕ) (k : Jp2) where
               ),
             )
 
-    -- what one turn tells of the whole walk
-    abbrev pub Tells : Step → Jp2 → Type 0
-    Tells (Next size) m = (size ≡ boxLength c) × (headerLength c ≤ boxLength c) × (boxLength c ≤ length c) × Runs (run (split n (at + boxLength c) (drop (boxLength c) c)) m)
-    Tells (Reached offset) m = Runs (codestream offset m)
-    Tells Over m = Runs (ended m)
-    Tells (TurnedDown number place) m = Runs (turnedDown number place)
+    -- what stands at c tells how the boxes of c run
+    abbrev pub Tells : Found → Type 0
+    Tells Nothing = Runs (ended k)
+    Tells (Codestream m) = (m ≤ length c) × Runs (stream (boxAt at (at + m)) k)
+    Tells Short = Runs (turnedDown 3 at)
+    Tells (Past kind) = Runs (pastKind kind at k)
+    Tells (Whole h) = (h ≡ headerOf c) × (headerLength c ≤ boxLength c) × (boxLength c ≤ length c) × Runs (thenWalk (outer (firstBox at c) k) (λ m. run (split n (at + boxLength c) (drop (boxLength c) c)) m))
 
-    tells-stop : (w : Walked) → Runs w → Tells (stops k w .step) (stops k w .jp2)
-    tells-stop (codestream offset m) r = r
-    tells-stop (ended m) r = r
-    tells-stop (turnedDown number place) r = r
-
-    tells-on : (x : Result) → headerLength c ≤ boxLength c → boxLength c ≤ length c
-        → Runs (thenWalk x (λ m. run (split n (at + boxLength c) (drop (boxLength c) c)) m)) → Tells (goesOn (boxLength c) k x .step) (goesOn (boxLength c) k x .jp2)
-    tells-on (accepted m) g h r = (refl, g, h, r)
-    tells-on (refused number place) g h r = r
-
-    turn-shows : Tells (turn at c k .step) (turn at c k .jp2)
-    unfolding turn
-    turn-shows =
-        each (λ (t : Turn). Tells (t .step) (t .jp2)) _ (
-          (λ h. run-cut h),
-          λ a. (
-            (λ h. run-high a h),
-            λ b. (
-              (λ t. tells-stop (stream (firstBox at c) k) (run-stream a b t)),
-              λ t. (
-                (λ h. run-short a b t h),
-                λ g.
-                    ((λ h. tells-stop (pastEnd (firstBox at c) k) (run-past a b t g h)), λ h. tells-on (outer (firstBox at c) k) g h (run-whole a b t g h)),
-              ),
+    pub found-tells : {r f : Found} → r ≡ found c → r ≡ f → Tells f
+    unfolding found pastKind
+    found-tells e f =
+        subst Tells (sym e ∙ f)
+        (each Tells _ (
+          (λ h. run-none h),
+          λ h. (
+            (λ t. (h .0, run-stream (h .0) (h .1) t)),
+            λ t. (
+              (λ s. run-short (h .0) (h .1) t s),
+              λ s.
+                  ((λ p. run-past (h .0) (h .1) t s p), λ p. (refl, s, p, run-whole (h .0) (h .1) t s p)),
             ),
           ),
-        )
-
-    pub turn-tells : {t : Turn} {q : Step} → t ≡ turn at c k → t .step ≡ q → Tells q (t .jp2)
-    turn-tells {t} e f = subst (λ (u : Step). Tells u (t .jp2)) f (subst (λ (u : Turn). Tells (u .step) (u .jp2)) (sym e) turn-shows)
+        ))

@@ -9,15 +9,21 @@ use lib.Seq.{take-all}
 use Rattle.jp2_cio.proofs.Rows.{row}
 use Rattle.jp2_box.specs.Box.{headerLength, boxLength}
 use Rattle.jp2_box.proofs.Headers.{header-least}
+use Rattle.jp2_box.specs.declared.consts.Jp2BoxType.{Jp2BoxType}
+use Rattle.jp2_box.specs.declared.header.Jp2BoxHeader.{Jp2BoxHeader}
 use Rattle.jp2_record.specs.declared.Jp2.{Jp2}
-use Rattle.jp2_walk.specs.Split.{Boxes, split, boxes}
+use Rattle.jp2_record.specs.declared.Outcome.{Outcome}
+use Rattle.jp2_record.specs.declared.Answer.the-variants.{Done, Refused}
+use Rattle.jp2_record.specs.Answer.{answer}
+use Rattle.jp2_record.proofs.Told.{answer-done, answer-refused}
+use Rattle.jp2_walk.specs.Split.{firstBox, split, boxes}
+use Rattle.jp2_walk.specs.Step.{Heads}
 use Rattle.jp2_walk.proofs.Faults.{split-none}
-use Rattle.jp2_file.specs.declared.Reading.{Reading}
-use Rattle.jp2_file.specs.declared.Turn.{Turn}
-use Rattle.jp2_file.specs.declared.Step.the-variants.{Next, Reached, Over, TurnedDown}
-use Rattle.jp2_file.specs.File.{Walked, codestream, ended, turnedDown, run, walk, reading}
-use Rattle.jp2_file.specs.Turn.{turn}
-use Rattle.jp2_file.proofs.Turns.{turn-tells}
+use Rattle.jp2_file.specs.declared.Found.{Found}
+use Rattle.jp2_file.specs.declared.Found.the-variants.{Nothing, Codestream, Short, Past, Whole}
+use Rattle.jp2_file.specs.File.{Walked, ended, turnedDown, stream, outer, run, walk}
+use Rattle.jp2_file.specs.Turn.{found, boxAt, pastKind}
+use Rattle.jp2_file.proofs.Turns.{found-tells}
 
 -- c, at a place of the file, is what is left: run from the record k it comes to w
 pub record Going (w : Walked) (at : ℕ) (c : List ℕ) (k : Jp2) : Type 0 where
@@ -34,47 +40,66 @@ module _ {w : Walked} {at : ℕ} {c : List ℕ} {k : Jp2} (g : Going w at c k) w
   unfolding run
   going-end z = rw (split-none at c (g .fuel) z) at (g .same)
 
-  module _ (some : 0 < length c) {t : Turn} (e : t ≡ turn at c k) where
-    pub going-fits : {size : ℕ} → t .step ≡ Next size → (8 ≤ size) × (size ≤ length c)
-    going-fits f = let r = turn-tells at c k 0 some e f in omega (arith, header-least c)
-
+  module _ (some : 0 < length c) {r : Found} (e : r ≡ found c) where
     -- with one more of the fuel
-    with-fuel : (P : ℕ → Type 0) → ((n : ℕ) → g .fuel ≡ suc n → P (suc n)) → P (g .fuel)
-    with-fuel P h = go (g .fuel) refl (g .enough)
+    with-fuel : (P : ℕ → Type 0) → ((n : ℕ) → P (suc n)) → P (g .fuel)
+    with-fuel P h = go (g .fuel) (g .enough)
       where
-        go : (n : ℕ) → g .fuel ≡ n → length c ≤ n → P n
-        go zero z l = absurd (omega arith)
-        go (suc n) z l = h n z
+        go : (n : ℕ) → length c ≤ n → P n
+        go zero l = absurd (omega arith)
+        go (suc n) l = h n
 
-    pub going-reached : {offset : ℕ} → t .step ≡ Reached offset → codestream offset (t .jp2) ≡ w
-    going-reached {offset} f = with-fuel (λ (n : ℕ). run (split n at c) k ≡ w → codestream offset (t .jp2) ≡ w) (λ n z s. sym (turn-tells at c k n some e f) ∙ s) (g .same)
+    -- the walk comes to what the boxes of c run to
+    runs-to : {v : Walked} → ((n : ℕ) → run (split (suc n) at c) k ≡ v) → v ≡ w
+    runs-to {v} h = with-fuel (λ (n : ℕ). run (split n at c) k ≡ w → v ≡ w) (λ n s. sym (h n) ∙ s) (g .same)
 
-    pub going-over : t .step ≡ Over → ended (t .jp2) ≡ w
-    going-over f = with-fuel (λ (n : ℕ). run (split n at c) k ≡ w → ended (t .jp2) ≡ w) (λ n z s. sym (turn-tells at c k n some e f) ∙ s) (g .same)
+    pub going-none : r ≡ Nothing → ended k ≡ w
+    going-none f = runs-to (λ n. found-tells at c k n some e f)
 
-    pub going-down : {number place : ℕ} → t .step ≡ TurnedDown number place → turnedDown number place ≡ w
-    going-down {number} {place} f = with-fuel (λ (n : ℕ). run (split n at c) k ≡ w → turnedDown number place ≡ w) (λ n z s. sym (turn-tells at c k n some e f) ∙ s) (g .same)
+    pub going-header : {m : ℕ} → r ≡ Codestream m → m ≤ length c
+    going-header f = found-tells at c k 0 some e f .0
 
-    -- the rest of c, as the code has it
-    rest : (n : ℕ) → take (length c - n) (drop n c) ≡ drop n c
-    rest n = take-all (length c - n) (drop n c) (rw length-drop (omega arith))
+    pub going-stream : {m : ℕ} → r ≡ Codestream m → stream (boxAt at (at + m)) k ≡ w
+    going-stream f = runs-to (λ n. found-tells at c k n some e f .1)
 
-    pub going-less : {size : ℕ} → t .step ≡ Next size → length (take (length c - size) (drop size c)) < length c
-    going-less {size} f = let q = going-fits f in rw (rest size, length-drop) (omega arith)
+    pub going-short : r ≡ Short → turnedDown 3 at ≡ w
+    going-short f = runs-to (λ n. found-tells at c k n some e f)
 
-    pub going-on : {size : ℕ} → t .step ≡ Next size → Going w (at + size) (take (length c - size) (drop size c)) (t .jp2)
-    going-on {size} f = rw (rest size) (with-fuel (λ (n : ℕ). length c ≤ n → run (split n at c) k ≡ w → Going w (at + size) (drop size c) (t .jp2)) on (g .enough) (g .same))
-      where
-        on : (n : ℕ) → g .fuel ≡ suc n → length c ≤ suc n → run (split (suc n) at c) k ≡ w → Going w (at + size) (drop size c) (t .jp2)
-        on n z l s =
-            let r = turn-tells at c k n some e f in
-            let q = going-fits f in
-            record {
-              fuel = n;
-              enough = rw length-drop (omega arith);
-              room = rw length-drop (omega (arith, g .room));
-              same = rw (r .0) (sym (r .3) ∙ s);
-            }
+    pub going-past : {kind : Jp2BoxType} → r ≡ Past kind → pastKind kind at k ≡ w
+    going-past f = runs-to (λ n. found-tells at c k n some e f)
+
+    module _ {h : Jp2BoxHeader} (f : r ≡ Whole h) where
+      pub going-heads : Heads at c h
+      going-heads =
+          let t = found-tells at c k 0 some e f in
+          record { ty = ap (λ (x : Jp2BoxHeader). x .ty) (t .0); long = ap (λ (x : Jp2BoxHeader). x .length) (t .0); head = ap (λ (x : Jp2BoxHeader). x .«header_length») (t .0); least = t .1; most = t .2; room = g .room }
+
+      pub going-fits : (8 ≤ h .length) × (h .length ≤ length c)
+      going-fits = let p = going-heads in omega (arith, header-least c, p .long, p .least, p .most)
+
+      -- the rest of c, as the code has it
+      rest : take (length c - h .length) (drop (h .length) c) ≡ drop (h .length) c
+      rest = take-all (length c - h .length) (drop (h .length) c) (rw length-drop (omega arith))
+
+      pub going-less : length (take (length c - h .length) (drop (h .length) c)) < length c
+      going-less = let q = going-fits in rw (rest, length-drop) (omega arith)
+
+      module _ {o : Outcome} (d : o ≡ answer k (outer (firstBox at c) k)) where
+        pub going-down : {n p : ℕ} → o .answer ≡ Refused n p → turnedDown n p ≡ w
+        going-down a = runs-to (λ n. found-tells at c k n some e f .3 ∙ rw (answer-refused k (outer (firstBox at c) k) d a))
+
+        pub going-on : o .answer ≡ Done → Going w (at + h .length) (take (length c - h .length) (drop (h .length) c)) (o .jp2)
+        going-on a = rw rest (with-fuel (λ (n : ℕ). length c ≤ n → run (split n at c) k ≡ w → Going w (at + h .length) (drop (h .length) c) (o .jp2)) on (g .enough) (g .same))
+          where
+            on : (n : ℕ) → length c ≤ suc n → run (split (suc n) at c) k ≡ w → Going w (at + h .length) (drop (h .length) c) (o .jp2)
+            on n l s =
+                let q = going-fits in
+                record {
+                  fuel = n;
+                  enough = rw length-drop (omega arith);
+                  room = rw length-drop (omega (arith, g .room));
+                  same = rw (going-heads .long) (rw (answer-done k (outer (firstBox at c) k) d a) at (sym (found-tells at c k n some e f .3) ∙ s));
+                }
 
 -- the ways through the walk
 pub walked : (f : List ℕ) (j : Jp2) {w : Walked} → length f ≤ 4294967295 → w ≡ run (boxes 0 f) j → w ≡ walk f j

@@ -7,7 +7,7 @@ ghost use Rattle.jp2_record.specs.Record.{blank};
 ghost use Rattle.jp2_record.specs.State.{withBit, unknown, withUnknown};
 ghost use Rattle.jp2_record.specs.Answer.{accepted, answer};
 ghost use Rattle.jp2_file.specs.File.{ended, turnedDown, stream, other, outer, walk, read, reading};
-ghost use Rattle.jp2_file.specs.Turn.{box, boxAt, inner, pastKind, stops, goesOn, turn};
+ghost use Rattle.jp2_file.specs.Turn.{found, box, boxAt, inner, pastKind};
 ghost use Rattle.jp2_walk.specs.Split.{firstBox};
 ghost use Rattle.jp2_walk.specs.Step.{Heads};
 use jp2_box::Jp2BoxHeader;
@@ -30,34 +30,48 @@ pub struct Reading {
     pub jp2: Jp2,
 }
 
-// One turn of the walk: a box that took so many bytes, the codestream at its offset, the end, or a refusal.
-pub enum Step {
-    Next(u32),
-    Reached(u32),
-    Over,
-    TurnedDown(u32, u32),
+// What stands at a place of the file: no box, the codestream with its header's length, a box that is shorter than its header, one of a kind that reaches past the end, or a whole one.
+pub enum Found {
+    Nothing,
+    Codestream(u32),
+    Short,
+    Past(Jp2BoxType),
+    Whole(Jp2BoxHeader),
 }
 
-// A turn and the record after it.
-pub struct Turn {
-    pub step: Step,
-    pub jp2: Jp2,
-}
-
-fn turned_down(number: u32, place: u32, k: Jp2) -> Turn
-    ensures { λ r. ⌜ r ≡ stops k (turnedDown number place) ⌝ }
+fn find_box(c: &[u8]) -> Found
+    ensures { λ r. ⌜ r ≡ found (now (c .entry)) ⌝ }
 {
-    Turn {
-        step: Step::TurnedDown(number, place),
-        jp2: k,
+    let ReadHeader::Header(h) = Jp2BoxHeader::from_stream(c) else {
+        return Found::Nothing;
+    };
+    let ty = h.ty;
+    if let Jp2BoxType::JP2C = ty {
+        return Found::Codestream(h.header_length);
+    }
+    if h.length < h.header_length {
+        return Found::Short;
+    }
+    if c.len() < h.length as usize {
+        return Found::Past(ty);
+    }
+    Found::Whole(h)
+}
+
+fn turned_down(number: u32, place: u32, j: Jp2) -> Reading
+    ensures { λ r. ⌜ r ≡ reading j (turnedDown number place) ⌝ }
+{
+    Reading {
+        answer: FileAnswer::Refused(number, place),
+        jp2: j,
     }
 }
 
-fn over(k: Jp2) -> Turn
-    ensures { λ r. ⌜ r ≡ stops k (ended k) ⌝ }
+fn over(k: Jp2) -> Reading
+    ensures { λ r. ⌜ r ≡ reading k (ended k) ⌝ }
 {
-    Turn {
-        step: Step::Over,
+    Reading {
+        answer: FileAnswer::Ended,
         jp2: k,
     }
 }
@@ -79,19 +93,19 @@ fn with_stream(state: u32) -> u32
     state
 }
 
-// The codestream box, whose content starts at start.
-fn read_stream(at: u32, start: u32, k: Jp2) -> Turn
-    ensures { λ r. ⌜ r ≡ stops k (stream (boxAt at start) k) ⌝ }
+// The codestream box, whose content starts at start; j is the record before the file.
+fn read_stream(at: u32, start: u32, k: Jp2, j: Jp2) -> Reading
+    ensures { λ r. ⌜ r ≡ reading j (stream (boxAt at start) k) ⌝ }
 {
     let mut status = k.status;
     if status.state / 4 % 2 == 0 {
-        return turned_down(2, at, k);
+        return turned_down(2, at, j);
     }
     status.state = with_stream(status.state);
     let mut m = k;
     m.status = status;
-    Turn {
-        step: Step::Reached(start),
+    Reading {
+        answer: FileAnswer::Codestream(start),
         jp2: m,
     }
 }
@@ -148,113 +162,74 @@ fn read_outer(ty: Jp2BoxType, c: &[u8], at: u32, start: u32, k: Jp2) -> Outcome
     }
 }
 
-// A box that reaches past the end.
-fn read_past(ty: Jp2BoxType, at: u32, k: Jp2) -> Turn
-    ensures { λ r. ⌜ r ≡ stops k (pastKind ty at k) ⌝ }
+// A box that reaches past the end; j is the record before the file.
+fn read_past(ty: Jp2BoxType, at: u32, k: Jp2, j: Jp2) -> Reading
+    ensures { λ r. ⌜ r ≡ reading j (pastKind ty at k) ⌝ }
 {
     if ty.is_file_header() {
-        return turned_down(4, at, k);
+        return turned_down(4, at, j);
     }
     if ty.is_image_header() {
-        return turned_down(4, at, k);
+        return turned_down(4, at, j);
     }
     let outcome = read_other(at, 0, k);
     let answer = outcome.answer;
     if let Answer::Refused(n, p) = answer {
-        return turned_down(n, p, k);
+        return turned_down(n, p, j);
     }
     over(outcome.jp2)
 }
 
-// A box that lies in the file.
-fn read_whole(c: &[u8], at: u32, h: Jp2BoxHeader, k: Jp2) -> Turn
+// A box that lies in the file, from c's first byte on, with the header that was found there.
+fn read_whole(c: &[u8], at: u32, h: Jp2BoxHeader, k: Jp2) -> Outcome
     requires { ⌜ Heads at (now c) h ⌝ }
-    ensures { λ r. ⌜ r ≡ goesOn (h .length) k (outer (firstBox at (now (c .entry))) k) ⌝ }
+    ensures { λ r. ⌜ r ≡ answer k (outer (firstBox at (now (c .entry))) k) ⌝ }
 {
     let content = jp2_cio::part(c, h.header_length as usize, h.length as usize);
     let start = at + h.header_length;
     let ty = h.ty;
-    let outcome = read_outer(ty, content, at, start, k);
-    let answer = outcome.answer;
-    if let Answer::Refused(n, p) = answer {
-        return turned_down(n, p, k);
-    }
-    let m = outcome.jp2;
-    Turn {
-        step: Step::Next(h.length),
-        jp2: m,
-    }
+    read_outer(ty, content, at, start, k)
 }
 
-// The box that starts at c's first byte, which is at a place of the file.
-fn read_turn(c: &[u8], at: u32, k: Jp2) -> Turn
-    requires { ⌜ at + length (now c) ≤ 4294967295 ⌝ }
-    ensures { λ r. ⌜ r ≡ turn at (now (c .entry)) k ⌝ }
-{
-    let ReadHeader::Header(h) = Jp2BoxHeader::from_stream(c) else {
-        return over(k);
-    };
-    let ty = h.ty;
-    if let Jp2BoxType::JP2C = ty {
-        return read_stream(at, at + h.header_length, k);
-    }
-    if h.length < h.header_length {
-        return turned_down(3, at, k);
-    }
-    if c.len() < h.length as usize {
-        return read_past(ty, at, k);
-    }
-    read_whole(c, at, h, k)
-}
-
-// A file, read from a record on.
+// A file, read from a record on. What stands at a place is told without the record, so that a turn copies it no more often than its reader does.
 pub fn opj_jp2_read_header_procedure(s: &[u8], j: Jp2) -> Reading
     ensures { λ r. ⌜ r ≡ reading j (walk (now (s .entry)) j) ⌝ }
 {
     if 4294967295 < s.len() {
-        return Reading {
-            answer: FileAnswer::Refused(1, 0),
-            jp2: j,
-        };
+        return turned_down(1, 0, j);
     }
     let mut k = j;
     let mut rest = s;
     let mut at: u32 = 0;
     while 0 < rest.len() {
-        let turn = read_turn(rest, at, k);
-        let step = turn.step;
-        let m = turn.jp2;
-        match step {
-            Step::Next(n) => {
-                let size = n as usize;
+        let found = find_box(rest);
+        match found {
+            Found::Nothing => {
+                return over(k);
+            }
+            Found::Codestream(n) => {
+                return read_stream(at, at + n, k, j);
+            }
+            Found::Short => {
+                return turned_down(3, at, j);
+            }
+            Found::Past(ty) => {
+                return read_past(ty, at, k, j);
+            }
+            Found::Whole(h) => {
+                let outcome = read_whole(rest, at, h, k);
+                let answer = outcome.answer;
+                if let Answer::Refused(n, p) = answer {
+                    return turned_down(n, p, j);
+                }
+                let size = h.length as usize;
                 rest = &rest[size..];
-                at = at + n;
-                k = m;
-            }
-            Step::Reached(offset) => {
-                return Reading {
-                    answer: FileAnswer::Codestream(offset),
-                    jp2: m,
-                };
-            }
-            Step::Over => {
-                return Reading {
-                    answer: FileAnswer::Ended,
-                    jp2: m,
-                };
-            }
-            Step::TurnedDown(n, p) => {
-                return Reading {
-                    answer: FileAnswer::Refused(n, p),
-                    jp2: j,
-                };
+                at = at + h.length;
+                k = outcome.jp2;
             }
         }
     }
-    Reading {
-        answer: FileAnswer::Ended,
-        jp2: k,
-    }
+    over(k)
 }
 
 // A file, read from the record before any box.

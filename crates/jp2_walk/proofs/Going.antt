@@ -8,77 +8,26 @@ use native.Mathlib.Omega.{arith}
 use lib.Dec.{eqb}
 use lib.ListN.{length, take, drop, length-drop}
 use lib.Seq.{take-all}
-use borrow.Author.Tests.{eqb-true, eqb-false}
 use Rattle.jp2_box.specs.Box.{TBox, headerLength, boxLength}
 use Rattle.jp2_cio.proofs.Rows.{row}
+use Rattle.jp2_box.specs.Kind.{numberOf}
+use Rattle.jp2_box.specs.declared.header.Jp2BoxHeader.{Jp2BoxHeader}
 use Rattle.jp2_box.proofs.Headers.{header-least}
+use Rattle.jp2_box.proofs.KindNumbers.{is-kind}
 use Rattle.jp2_record.specs.declared.Jp2.{Jp2}
-use Rattle.jp2_record.specs.declared.Answer.{Answer}
 use Rattle.jp2_record.specs.declared.Answer.the-variants.{Done, Refused}
+use Rattle.jp2_record.specs.declared.Outcome.{Outcome}
 use Rattle.jp2_record.specs.Answer.{Result, accepted, refused, answer, andThen}
 use Rattle.jp2_record.proofs.Told.{answer-done, answer-refused}
-use Rattle.jp2_walk.specs.declared.Step.{Step}
+use Rattle.jp2_walk.specs.declared.Child.{Child}
+use Rattle.jp2_walk.specs.declared.Child.the-variants.{Fault, Found}
 use Rattle.jp2_walk.specs.Split.{Boxes, _▸_, firstBox, split, boxes}
 use Rattle.jp2_walk.specs.Child.{child}
 use Rattle.jp2_walk.specs.Jp2h.{readAll, lacksIhdr, withHeaderBit, jp2h, jp2hAlone}
 use Rattle.jp2_record.specs.Record.{withImgstate}
 use Rattle.jp2_record.specs.State.{fileTypeBit}
-use Rattle.jp2_walk.specs.Step.{fault, readBox, step}
-use Rattle.jp2_walk.proofs.Faults.{sound, split-none, split-fault, split-more}
-
--- what one turn tells, where its child was read
-pub record Read (at : ℕ) (c : List ℕ) (lacks : Bool) (k : Jp2) (t : Step) : Type 0 where
-  pub sound : fault c ≡ 0
-  pub read : child (firstBox at c) k ≡ accepted (t .outcome .jp2)
-  pub size : t .size ≡ boxLength c
-  pub saw : t .lacks ≡ (not (eqb (TBox c) 0x69686472) && lacks)
-
-module _ (at : ℕ) (c : List ℕ) (lacks : Bool) (k : Jp2) where
-  pub step-broken : (fault c ≡ 0 → ⊥) → step at c lacks k ≡ record { outcome = answer k (refused (fault c) at); size = 0; lacks = lacks }
-  unfolding step
-  step-broken f = sym (row 0 _ f refl)
-
-  pub step-found : fault c ≡ 0 → step at c lacks k ≡ readBox at c lacks k
-  unfolding step
-  step-found f = sym (row 1 _ (omega arith) refl)
-
-  -- by whether the child has a fault
-  by-fault : {X : Type 0} → (fault c ≡ 0 → X) → ((fault c ≡ 0 → ⊥) → X) → X
-  by-fault {X} f g = go (eqb (fault c) 0) refl
-    where
-      go : (b : Bool) → eqb (fault c) 0 ≡ b → X
-      go true e = f (eqb-true (fault c) 0 e)
-      go false e = g (eqb-false (fault c) 0 e)
-
-  pub step-done : {t : Step} → t ≡ step at c lacks k → t .outcome .answer ≡ Done → Read at c lacks k t
-  step-done {t} e d = by-fault ok no
-    where
-      ok : fault c ≡ 0 → Read at c lacks k t
-      ok f =
-          let s : t ≡ readBox at c lacks k = e ∙ step-found f in
-          let x = answer-done k (child (firstBox at c) k) {o = t .outcome} (cc) d in
-          record { sound = f; read = cc; size = cc; saw = cc }
-
-      no : (fault c ≡ 0 → ⊥) → Read at c lacks k t
-      no f =
-          let s : t ≡ record { outcome = answer k (refused (fault c) at); size = 0; lacks = lacks } = e ∙ step-broken f in
-          let x = answer-done k (refused (fault c) at) {o = t .outcome} (cc) d in
-          let z : _≡_ {A = ℕ} 0 1 = cc in
-          absurd (omega arith)
-
-  pub step-refused : {t : Step} {n p : ℕ} (f : ℕ) → 0 < length c → t ≡ step at c lacks k → t .outcome .answer ≡ Refused n p → readAll (split (suc f) at c) k ≡ refused n p
-  unfolding readAll
-  step-refused {t} {n} {p} f h e d = by-fault ok no
-    where
-      ok : fault c ≡ 0 → readAll (split (suc f) at c) k ≡ refused n p
-      ok z =
-          let s : t ≡ readBox at c lacks k = e ∙ step-found z in
-          rw (split-more at c f h z, answer-refused k (child (firstBox at c) k) {o = t .outcome} (cc) d)
-
-      no : (fault c ≡ 0 → ⊥) → readAll (split (suc f) at c) k ≡ refused n p
-      no z =
-          let s : t ≡ record { outcome = answer k (refused (fault c) at); size = 0; lacks = lacks } = e ∙ step-broken z in
-          split-fault at c f k h z ∙ answer-refused k (refused (fault c) at) {o = t .outcome} (cc) d
+use Rattle.jp2_walk.specs.Step.{fault, found, Heads}
+use Rattle.jp2_walk.proofs.Faults.{found-tells, sound, split-none, split-fault, split-more}
 
 and-swap : (a b d : Bool) → ((a && b) && d) ≡ (b && (a && d))
 and-swap false true d = refl
@@ -94,42 +43,66 @@ pub record Going (whole : Boxes) (j : Jp2) (at : ℕ) (c : List ℕ) (lacks : Bo
   pub lack : (lacksIhdr (split fuel at c) && lacks) ≡ lacksIhdr whole
 
 module _ {whole : Boxes} {j : Jp2} {at : ℕ} {c : List ℕ} {lacks : Bool} {k : Jp2} (g : Going whole j at c lacks k) where
-  pub going-fits : {t : Step} → Read at c lacks k t → (8 ≤ t .size) × (t .size ≤ length c)
-  going-fits r = let w = sound c (r .sound) in omega (arith, header-least c, r .size)
-
-  -- the rest of c, as the code has it
-  rest : (n : ℕ) → take (length c - n) (drop n c) ≡ drop n c
-  rest n = take-all (length c - n) (drop n c) (rw length-drop (omega arith))
-
-  pub going-less : {t : Step} → Read at c lacks k t → length (take (length c - t .size) (drop (t .size) c)) < length c
-  going-less {t} r = let f = going-fits r in rw (rest (t .size), length-drop) (omega arith)
-
-  pub going-on : {t : Step} → 0 < length c → Read at c lacks k t → Going whole j (at + t .size) (take (length c - t .size) (drop (t .size) c)) (t .lacks) (t .outcome .jp2)
-  unfolding readAll lacksIhdr
-  going-on {t} h r = rw (rest (t .size)) (go (g .fuel) (g .enough) (g .same) (g .lack))
-    where
-      go : (f : ℕ) → length c ≤ f → readAll (split f at c) k ≡ readAll whole j → (lacksIhdr (split f at c) && lacks) ≡ lacksIhdr whole → Going whole j (at + t .size) (drop (t .size) c) (t .lacks) (t .outcome .jp2)
-      go zero e s b = absurd (omega arith)
-      go (suc f) e s b =
-          let ft = going-fits r in
-          record {
-            fuel = f;
-            enough = rw length-drop (omega arith);
-            room = rw length-drop (omega (arith, g .room));
-            same = rw (r .size) (rw (split-more at c f h (r .sound), r .read) at s);
-            lack = rw (r .size, r .saw) (sym (and-swap (not (eqb (TBox c) 0x69686472)) (lacksIhdr (split f (at + boxLength c) (drop (boxLength c) c))) lacks) ∙ rw (split-more at c f h (r .sound)) at b);
-          }
-
-  pub going-stop : {t : Step} {n p : ℕ} → 0 < length c → t ≡ step at c lacks k → t .outcome .answer ≡ Refused n p → readAll whole j ≡ refused n p
-  going-stop {t} {n} {p} h e d = go (g .fuel) (g .enough) (g .same)
-    where
-      go : (f : ℕ) → length c ≤ f → readAll (split f at c) k ≡ readAll whole j → readAll whole j ≡ refused n p
-      go zero l s = absurd (omega arith)
-      go (suc f) l s = sym s ∙ step-refused at c lacks k f h e d
-
   pub going-end : length c ≡ 0 → (readAll whole j ≡ accepted k) × (lacksIhdr whole ≡ lacks)
   unfolding readAll lacksIhdr
   going-end z = (rw (split-none at c (g .fuel) z) at (sym (g .same)), rw (split-none at c (g .fuel) z) at (sym (g .lack)))
+
+  module _ (some : 0 < length c) {r : Child} (e : r ≡ found c) where
+    -- with one more of the fuel
+    with-fuel : (P : ℕ → Type 0) → ((n : ℕ) → P (suc n)) → P (g .fuel)
+    with-fuel P h = go (g .fuel) (g .enough)
+      where
+        go : (n : ℕ) → length c ≤ n → P n
+        go zero l = absurd (omega arith)
+        go (suc n) l = h n
+
+    pub going-fault : {n : ℕ} → r ≡ Fault n → readAll whole j ≡ refused n at
+    going-fault {n} f =
+        let t = found-tells c e f in
+        with-fuel (λ (m : ℕ). readAll (split m at c) k ≡ readAll whole j → readAll whole j ≡ refused n at) (λ m s. sym s ∙ split-fault at c m k some (t .1) ∙ ap (λ (x : ℕ). refused x at) (sym (t .0))) (g .same)
+
+    module _ {h : Jp2BoxHeader} (f : r ≡ Found h) where
+      no-fault : fault c ≡ 0
+      no-fault = found-tells c e f .1
+
+      pub going-heads : Heads at c h
+      going-heads =
+          let q = found-tells c e f .0 in
+          let w = sound c no-fault in
+          record { ty = ap (λ (x : Jp2BoxHeader). x .ty) q; long = ap (λ (x : Jp2BoxHeader). x .length) q; head = ap (λ (x : Jp2BoxHeader). x .«header_length») q; least = w .least; most = w .most; room = g .room }
+
+      pub going-fits : (8 ≤ h .length) × (h .length ≤ length c)
+      going-fits = let p = going-heads in omega (arith, header-least c, p .long, p .least, p .most)
+
+      -- the rest of c, as the code has it
+      rest : take (length c - h .length) (drop (h .length) c) ≡ drop (h .length) c
+      rest = take-all (length c - h .length) (drop (h .length) c) (rw length-drop (omega arith))
+
+      pub going-less : length (take (length c - h .length) (drop (h .length) c)) < length c
+      going-less = let q = going-fits in rw (rest, length-drop) (omega arith)
+
+      module _ {o : Outcome} (d : o ≡ answer k (child (firstBox at c) k)) where
+        pub going-stop : {n p : ℕ} → o .answer ≡ Refused n p → readAll whole j ≡ refused n p
+        unfolding readAll
+        going-stop {n} {p} a =
+            with-fuel (λ (m : ℕ). readAll (split m at c) k ≡ readAll whole j → readAll whole j ≡ refused n p)
+            (λ m s. sym s ∙ rw (split-more at c m some no-fault, answer-refused k (child (firstBox at c) k) d a)) (g .same)
+
+        pub going-on : {l : Bool} → o .answer ≡ Done → l ≡ (not (eqb (numberOf (h .ty)) 0x69686472) && lacks) → Going whole j (at + h .length) (take (length c - h .length) (drop (h .length) c)) l (o .jp2)
+        unfolding readAll lacksIhdr
+        going-on {l} a b = rw rest (with-fuel (λ (m : ℕ). length c ≤ m → readAll (split m at c) k ≡ readAll whole j → (lacksIhdr (split m at c) && lacks) ≡ lacksIhdr whole → Going whole j (at + h .length) (drop (h .length) c) l (o .jp2)) on (g .enough) (g .same) (g .lack))
+          where
+            on : (m : ℕ) → length c ≤ suc m → readAll (split (suc m) at c) k ≡ readAll whole j → (lacksIhdr (split (suc m) at c) && lacks) ≡ lacksIhdr whole → Going whole j (at + h .length) (drop (h .length) c) l (o .jp2)
+            on m n s t =
+                let q = going-fits in
+                let p = going-heads in
+                record {
+                  fuel = m;
+                  enough = rw length-drop (omega arith);
+                  room = rw length-drop (omega (arith, g .room));
+                  same = rw (p .long) (rw (split-more at c m some no-fault, answer-done k (child (firstBox at c) k) d a) at s);
+                  lack = rw (p .long, b, sym (is-kind (p .ty) refl)) (sym (and-swap (not (eqb (TBox c) 0x69686472)) (lacksIhdr (split m (at + boxLength c) (drop (boxLength c) c))) lacks) ∙ rw (split-more at c m some no-fault) at t);
+                }
 
 and-none : (b : Bool) → (b && true) ≡ b
 and-none true = refl

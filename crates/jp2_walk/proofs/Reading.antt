@@ -2,15 +2,11 @@
 -- Assumes nothing.
 use Prim.Native.Nat.{ℕ}
 use mathlib.Core.Path.{_≡_, refl}
-use mathlib.Core.Bool.{Bool, not, _&&_}
 use mathlib.Core.List.{List, [], _∷_}
-use lib.Dec.{eqb}
 use types.Run.{OneOf, miss}
 use denote.Enum.Declared.{tagOf}
-use Rattle.jp2_cio.specs.Number.{part}
 use Rattle.jp2_cio.specs.Table.{table}
 use Rattle.jp2_box.specs.Kind.{kindOf}
-use Rattle.jp2_box.specs.Box.{TBox, headerLength, boxLength}
 use Rattle.jp2_box.specs.declared.consts.Jp2BoxType.{Jp2BoxType}
 use Rattle.jp2_box.specs.declared.consts.Jp2BoxType.the-variants.{None, JPIP, JP, FTYP, JP2H, IHDR, COLR, JP2C, URL, PCLR, CMAP, CDEF, DTBL, BPCC, JP2, RES, JP2I, XML, UUID, UINF, Unknown}
 use Rattle.jp2_box.proofs.consts.Jp2BoxType.{the-type}
@@ -18,9 +14,7 @@ use Rattle.jp2_box.proofs.KindNumbers.{not-kind}
 use Rattle.jp2_record.specs.declared.Jp2.{Jp2}
 use Rattle.jp2_record.specs.declared.Outcome.{Outcome}
 use Rattle.jp2_record.specs.Answer.{Result, answer}
-use Rattle.jp2_walk.specs.Split.{firstBox}
-use Rattle.jp2_walk.specs.Child.{skipped, reader, child}
-use Rattle.jp2_walk.specs.Step.{readBox}
+use Rattle.jp2_walk.specs.Child.{skipped, reader}
 
 -- the tags of the kinds that have no reader
 abbrev pub others : List ℕ
@@ -52,10 +46,6 @@ unread (Unknown n) h = refl
 pub not-ihdr : {k : Jp2BoxType} {n : ℕ} → k ≡ kindOf n → OneOf (0 ∷ 1 ∷ 2 ∷ 3 ∷ 4 ∷ 6 ∷ 7 ∷ 8 ∷ 9 ∷ 10 ∷ 11 ∷ 12 ∷ 13 ∷ 14 ∷ 15 ∷ 16 ∷ 17 ∷ 18 ∷ 19 ∷ 20 ∷ []) (tagOf the-type k) → n ≡ 0x69686472 → ⊥
 unfolding kindOf table
 not-ihdr e h = not-kind (0 ∷ 1 ∷ 2 ∷ 3 ∷ 4 ∷ 6 ∷ 7 ∷ 8 ∷ 9 ∷ 10 ∷ 11 ∷ 12 ∷ 13 ∷ 14 ∷ 15 ∷ 16 ∷ 17 ∷ 18 ∷ 19 ∷ 20 ∷ []) 0x69686472 tt e h
-
-pub box-read : (at : ℕ) (c : List ℕ) (lacks : Bool) (k : Jp2) (x : Result) {o : Outcome} {n : ℕ} {b : Bool} → o ≡ answer k x → x ≡ child (firstBox at c) k → n ≡ boxLength c
-    → b ≡ (not (eqb (TBox c) 0x69686472) && lacks) → record { outcome = o; size = n; lacks = b } ≡ readBox at c lacks k
-box-read at c lacks k x e f g h = cc
 
 -- what the reader of a kind answered
 module _ (place start : ℕ) (c : List ℕ) (j : Jp2) {r : Outcome} where

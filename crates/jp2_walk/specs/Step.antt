@@ -1,19 +1,12 @@
--- What the loop's body answers, for its own functions: one turn of `split` and `readAll`.
+-- What stands where a child is to start, for the loop's own functions.
 use Prim.Native.Nat.{ℕ, _+_, _≤_}
 use mathlib.Core.Path.{_≡_}
-use mathlib.Core.Bool.{Bool, not, _&&_}
 use mathlib.Core.List.{List}
-use lib.Dec.{eqb}
 use lib.ListN.{length}
 use Rattle.jp2_cio.specs.Table.{Test, _=?_, _≠?_, _<?_, _or_, Rows, otherwise, _⇒_∣_, table}
 use Rattle.jp2_box.specs.Kind.{kindOf}
 use Rattle.jp2_box.specs.Box.{LBox, TBox, headerLength, boxLength, headerOf}
 use Rattle.jp2_box.specs.declared.header.Jp2BoxHeader.{Jp2BoxHeader}
-use Rattle.jp2_record.specs.declared.Jp2.{Jp2}
-use Rattle.jp2_record.specs.Answer.{Result, refused, answer}
-use Rattle.jp2_walk.specs.Split.{firstBox}
-use Rattle.jp2_walk.specs.Child.{child}
-use Rattle.jp2_walk.specs.declared.Step.{Step}
 use Rattle.jp2_walk.specs.declared.Child.{Child}
 use Rattle.jp2_walk.specs.declared.Child.the-variants.{Fault, Found}
 
@@ -36,12 +29,3 @@ pub record Heads (at : ℕ) (c : List ℕ) (h : Jp2BoxHeader) : Type 0 where
   pub least : headerLength c ≤ boxLength c
   pub most : boxLength c ≤ length c
   pub room : at + length c ≤ 4294967295
-
-abbrev pub readBox : ℕ → List ℕ → Bool → Jp2 → Step
-readBox at c lacks k = record { outcome = answer k (child (firstBox at c) k); size = boxLength c; lacks = not (eqb (TBox c) 0x69686472) && lacks }
-
-unfoldable pub step : ℕ → List ℕ → Bool → Jp2 → Step
-step at c lacks k =
-    table
-    (fault c ≠? 0 ⇒ record { outcome = answer k (refused (fault c) at); size = 0; lacks = lacks }
-    ∣ otherwise (readBox at c lacks k))

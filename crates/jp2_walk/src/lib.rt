@@ -1,12 +1,14 @@
 // The JP2 Header box (I.5.3): its boxes, one after the other.
-ghost use Prim.Native.Nat.{_+_, _≤_};
 ghost use mathlib.Core.Path.{_≡_};
-ghost use lib.ListN.{length};
+ghost use mathlib.Core.Bool.{not, _&&_};
+ghost use lib.Dec.{eqb};
+ghost use Rattle.jp2_box.specs.Kind.{kindOf, numberOf};
 ghost use Rattle.jp2_record.specs.Answer.{answer};
-ghost use Rattle.jp2_walk.specs.Child.{reader};
+ghost use Rattle.jp2_walk.specs.Child.{reader, child};
 ghost use Rattle.jp2_record.specs.State.{withBit};
 ghost use Rattle.jp2_walk.specs.Jp2h.{jp2hAlone};
-ghost use Rattle.jp2_walk.specs.Step.{found, Heads, readBox, step};
+ghost use Rattle.jp2_walk.specs.Split.{firstBox};
+ghost use Rattle.jp2_walk.specs.Step.{found, Heads};
 use jp2_box::Jp2BoxHeader;
 use jp2_box::Jp2BoxType;
 use jp2_box::ReadHeader;
@@ -56,53 +58,27 @@ fn find_child(c: &[u8]) -> Child
     Child::Found(h)
 }
 
-// What came of one child, how many bytes it took, and whether jp2h still lacks an ihdr.
-pub struct Step {
-    pub outcome: Outcome,
-    pub size: u32,
-    pub lacks: bool,
-}
-
-fn read_box(c: &[u8], at: u32, h: Jp2BoxHeader, lacks: bool, k: Jp2) -> Step
+// The child that starts at c's first byte, which is at a place of the file, with the header that was found there.
+fn read_box(c: &[u8], at: u32, h: Jp2BoxHeader, k: Jp2) -> Outcome
     requires { ⌜ Heads at (now c) h ⌝ }
-    ensures { λ r. ⌜ r ≡ readBox at (now (c .entry)) lacks k ⌝ }
+    ensures { λ r. ⌜ r ≡ answer k (child (firstBox at (now (c .entry))) k) ⌝ }
 {
     let content = jp2_cio::part(c, h.header_length as usize, h.length as usize);
     let start = at + h.header_length;
-    let size = h.length;
     let ty = h.ty;
-    let outcome = read_content(ty, content, at, start, k);
-    if let Jp2BoxType::IHDR = ty {
-        return Step {
-            outcome,
-            size,
-            lacks: false,
-        };
-    }
-    Step {
-        outcome,
-        size,
-        lacks,
-    }
+    read_content(ty, content, at, start, k)
 }
 
-// The child that starts at c's first byte, which is at a place of the file.
-fn read_child(c: &[u8], at: u32, lacks: bool, k: Jp2) -> Step
-    requires { ⌜ at + length (now c) ≤ 4294967295 ⌝ }
-    ensures { λ r. ⌜ r ≡ step at (now (c .entry)) lacks k ⌝ }
+// Whether jp2h still lacks an ihdr after a child.
+fn still_lacks(h: Jp2BoxHeader, lacks: bool) -> bool
+    requires { ⌜ h .ty ≡ kindOf (numberOf (h .ty)) ⌝ }
+    ensures { λ r. ⌜ r ≡ (not (eqb (numberOf (h .ty)) 0x69686472) && lacks) ⌝ }
 {
-    let child = find_child(c);
-    match child {
-        Child::Fault(n) => {
-            let outcome = Outcome::refused(n, at, k);
-            Step {
-                outcome,
-                size: 0,
-                lacks,
-            }
-        }
-        Child::Found(h) => read_box(c, at, h, lacks, k),
+    let ty = h.ty;
+    if let Jp2BoxType::IHDR = ty {
+        return false;
     }
+    lacks
 }
 
 // A state with the header bit.
@@ -115,6 +91,7 @@ fn with_header(state: u32) -> u32
     state
 }
 
+// The record is changed here and by the readers alone, and goes through no struct between them: each copy of it costs as much as reading a small box.
 pub fn opj_jp2_read_jp2h(c: &[u8], place: u32, start: u32, j: Jp2) -> Outcome
     ensures { λ r. ⌜ r ≡ answer j (jp2hAlone place start (now (c .entry)) j) ⌝ }
 {
@@ -133,17 +110,24 @@ pub fn opj_jp2_read_jp2h(c: &[u8], place: u32, start: u32, j: Jp2) -> Outcome
     let mut at = start;
     let mut lacks = true;
     while 0 < rest.len() {
-        let step = read_child(rest, at, lacks, k);
-        let outcome = step.outcome;
-        let answer = outcome.answer;
-        if let Answer::Refused(n, p) = answer {
-            return Outcome::refused(n, p, j);
+        let child = find_child(rest);
+        match child {
+            Child::Fault(n) => {
+                return Outcome::refused(n, at, j);
+            }
+            Child::Found(h) => {
+                let outcome = read_box(rest, at, h, k);
+                let answer = outcome.answer;
+                if let Answer::Refused(n, p) = answer {
+                    return Outcome::refused(n, p, j);
+                }
+                let size = h.length as usize;
+                rest = &rest[size..];
+                at = at + h.length;
+                lacks = still_lacks(h, lacks);
+                k = outcome.jp2;
+            }
         }
-        let size = step.size as usize;
-        rest = &rest[size..];
-        at = at + step.size;
-        lacks = step.lacks;
-        k = outcome.jp2;
     }
     if lacks {
         return Outcome::refused(12, place, j);

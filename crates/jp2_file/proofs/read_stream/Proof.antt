@@ -5,8 +5,8 @@ use mathlib.Core.Path.{refl}
 use Rattle.jp2_cio.proofs.Rows.{row}
 use Rattle.jp2_record.specs.Record.{withState}
 use Rattle.jp2_record.specs.State.{withBit}
-use Rattle.jp2_file.specs.File.{codestream}
-use Rattle.jp2_file.proofs.Turns.{stop}
+use Rattle.jp2_file.specs.File.{codestream, reading}
+use Rattle.jp2_file.proofs.Turns.{gives}
 use borrow.Author.Needs.{needs}
 use Rattle.jp2_file.proofs.read_stream.Statement.{statement}
 use Rattle.jp2_file.proofs.read_stream.Tie as tie
@@ -15,13 +15,14 @@ turned-down-requires : tie.Need-turned-down-requires
 turned-down-requires c κs = search needs
 
 returns : tie.Need-returns
-returns c = stop _ _ _ (c .turned-down .ensures) (row 0 _ (omega arith) refl)
+returns c = gives _ _ _ (c .turned-down .ensures) (row 0 _ (omega arith) refl)
 
 with-stream-requires : tie.Need-with-stream-requires
 with-stream-requires c κs = search needs
 
 returns-2 : tie.Need-returns-2
-returns-2 c = let a = c .before .before .before .before .args in stop (a .k) (codestream (a .start) (withState (withBit 8 (a .k .status .state)) (a .k))) _ (cc) (row 1 _ (omega arith) refl)
+unfolding reading
+returns-2 c = let a = c .before .before .before .before .args in gives (a .j) (codestream (a .start) (withState (withBit 8 (a .k .status .state)) (a .k))) _ (cc) (row 1 _ (omega arith) refl)
 
 pub read-stream-spec : {M : Type 1} → statement M
 read-stream-spec = tie.close (tie.spec turned-down-requires returns with-stream-requires returns-2)

@@ -1,17 +1,14 @@
 -- `jp2_file::read_whole` meets its contract.
 -- Assumes nothing.
-use Rattle.jp2_record.specs.Answer.{answer}
-use Rattle.jp2_walk.specs.Split.{Box, firstBox}
-use Rattle.jp2_file.proofs.Turns.{whole-box, went, went-not}
 use native.Mathlib.Omega.{arith}
-use Prim.Native.Nat.{ℕ}
-use mathlib.Core.Path.{_≡_, refl, sym, ap, _∙_}
-use lib.ListN.{length}
-use Rattle.jp2_box.specs.Box.{TBox}
+use mathlib.Core.Path.{ap, _∙_}
 use Rattle.jp2_cio.proofs.Numbers.{part-most}
-use Rattle.jp2_box.specs.Kind.{numberOf}
-use Rattle.jp2_box.proofs.KindNumbers.{is-kind, proper-kind}
+use Rattle.jp2_box.specs.Box.{TBox}
+use Rattle.jp2_box.proofs.KindNumbers.{proper-kind}
+use Rattle.jp2_record.specs.Answer.{answer}
+use Rattle.jp2_walk.specs.Split.{Box}
 use Rattle.jp2_file.specs.File.{outer}
+use Rattle.jp2_file.proofs.Turns.{whole-box}
 use borrow.Author.Needs.{needs}
 use Rattle.jp2_file.proofs.read_whole.Statement.{statement}
 use Rattle.jp2_file.proofs.read_whole.Tie as tie
@@ -31,32 +28,9 @@ add-start c = let p = c .before .before .before .before .before .pre in omega (a
 read-outer-requires : tie.Need-read-outer-requires
 read-outer-requires c κs = let a = c .before .before .before .before .before .args in let p = c .before .before .before .before .before .pre in (proper-kind (TBox (a .c .now)) (p .ty), rw (c .before .part .ensures) (omega (arith, part-most (a .c .now) (a .h .«header_length») (a .h .length), p .head, p .long, p .least, p .most, p .room)))
 
-enum-known-answer : tie.Need-enum-known-answer
-enum-known-answer c = search needs
-
-turned-down-requires : tie.Need-turned-down-requires
-turned-down-requires c κs = search needs
-
 returns : tie.Need-returns
-returns c = let a = c .before .before .before .before .before .before .before .before .before .before .args in let p = c .before .before .before .before .before .before .before .before .before .before .pre in went-not (a .h .length) (a .k) (outer (firstBox (a .at) (a .c .now)) (a .k)) (c .before .before .before .before .read-outer .ensures ∙ (ap (λ (x : Box). answer (a .k) (outer x (a .k))) (whole-box p (c .before .before .before .before .before .before .part .ensures)))) (c .before .before .answer .given .1) (c .turned-down .ensures)
-
-enum-told : tie.Need-enum-told
-enum-told c = search needs
-
-returns-2 : tie.Need-returns-2
-returns-2 c = let a = c .before .before .before .before .before .before .before .before .before .args in let p = c .before .before .before .before .before .before .before .before .before .pre in went (a .h .length) (a .k) (outer (firstBox (a .at) (a .c .now)) (a .k)) (c .before .before .before .read-outer .ensures ∙ (ap (λ (x : Box). answer (a .k) (outer x (a .k))) (whole-box p (c .before .before .before .before .before .part .ensures)))) (c .before .enum-told .given .1)
+returns c = let a = c .before .before .before .before .before .before .args in c .read-outer .ensures ∙ ap (λ (x : Box). answer (a .k) (outer x (a .k))) (whole-box (c .before .before .before .before .before .before .pre) (c .before .before .part .ensures))
 
 pub read-whole-spec : {M : Type 1} → statement M
 read-whole-spec =
-    tie.close
-    (tie.spec
-    cast-part
-    cast-part-2
-    part-requires
-    add-start
-    read-outer-requires
-    enum-known-answer
-    turned-down-requires
-    returns
-    enum-told
-    returns-2)
+    tie.close (tie.spec cast-part cast-part-2 part-requires add-start read-outer-requires returns)

@@ -1,10 +1,7 @@
 -- `jp2_walk::read_box` meets its contract.
 -- Assumes nothing.
 use native.Mathlib.Omega.{arith}
-use mathlib.Core.Path.{refl, sym, ap, _∙_}
-use borrow.Author.Tests.{ne-eqb}
-use Rattle.jp2_box.proofs.KindNumbers.{is-kind}
-use Rattle.jp2_walk.proofs.Reading.{box-read, not-ihdr}
+use Rattle.jp2_record.proofs.Told.{told}
 use borrow.Author.Needs.{needs}
 use Rattle.jp2_walk.proofs.read_box.Statement.{statement}
 use Rattle.jp2_walk.proofs.read_box.Tie as tie
@@ -24,24 +21,10 @@ add-start c = let p = c .before .before .before .before .before .pre in omega (a
 read-content-requires : tie.Need-read-content-requires
 read-content-requires c κs = search needs
 
-enum-told : tie.Need-enum-told
-enum-told c = search needs
-
 returns : tie.Need-returns
-returns c = let a = c .before .before .before .before .before .before .before .before .args in let p = c .before .before .before .before .before .before .before .before .pre in let t = is-kind (p .ty) (c .enum-told .given .1) in box-read (a .at) (a .c .now) (a .lacks) (a .k) _ (c .before .before .read-content .ensures) (cc) (p .long) (rw t)
-
-returns-2 : tie.Need-returns-2
-returns-2 c = let a = c .before .before .before .before .before .before .before .args in let p = c .before .before .before .before .before .before .before .pre in box-read (a .at) (a .c .now) (a .lacks) (a .k) _ (c .before .read-content .ensures) (cc) (p .long) (rw (ne-eqb _ _ (not-ihdr (p .ty) (c .match .keys2))))
+returns c = let p = c .before .before .before .before .before .before .pre in let t = p .ty in let h = p .head in let l = p .long in told _ _ _ (c .read-content .ensures) (cc)
 
 pub read-box-spec : {M : Type 1} → statement M
 read-box-spec =
     tie.close
-    (tie.spec
-    cast-part
-    cast-part-2
-    part-requires
-    add-start
-    read-content-requires
-    enum-told
-    returns
-    returns-2)
+    (tie.spec cast-part cast-part-2 part-requires add-start read-content-requires returns)
