@@ -3,30 +3,36 @@
 use Prim.Native.Nat.{ℕ, suc, _+_, _≤_, _<_}
 use native.Mathlib.Omega.{arith}
 use mathlib.Core.Path.{_≡_, refl, sym, ap, subst, _∙_}
+use mathlib.Core.Bool.{true, false}
 use mathlib.Core.List.{List, [], _∷_}
+use lib.Dec.{eqb}
+use borrow.Author.Tests.{eqb-true, eqb-false}
 use types.Run.{OneOf}
 use denote.Enum.Declared.{tagOf}
 use lib.ListN.{length, drop, length-drop}
 use Rattle.jp2_cio.specs.Number.{part}
 use Rattle.jp2_cio.specs.Table.{table}
-use Rattle.jp2_cio.proofs.Rows.{row, each}
-use Rattle.jp2_box.specs.Kind.{kindOf, numberOf}
+use Rattle.jp2_cio.proofs.Rows.{row, each, either, true-false}
+use Rattle.jp2_box.specs.Kind.{kindOf, numberOf, isFileHeader, isImageHeader}
 use Rattle.jp2_box.specs.declared.header.Jp2BoxHeader.{Jp2BoxHeader}
 use Rattle.jp2_box.specs.Box.{LBox, TBox, headerLength, boxLength, headerOf}
 use Rattle.jp2_box.specs.declared.consts.Jp2BoxType.{Jp2BoxType}
 use Rattle.jp2_box.proofs.consts.Jp2BoxType.{the-type}
-use Rattle.jp2_box.proofs.KindNumbers.{is-kind, not-kind}
+use Rattle.jp2_box.specs.declared.consts.Jp2BoxType.the-variants.{None, JPIP, JP, FTYP, JP2H, IHDR, COLR, JP2C, URL, PCLR, CMAP, CDEF, DTBL, BPCC, JP2, RES, JP2I, XML, UUID, UINF, Unknown}
+use Rattle.jp2_box.proofs.KindNumbers.{kinds-and-numbers, is-kind, not-kind}
 use Rattle.jp2_box.proofs.Headers.{box-all}
 use Rattle.jp2_record.specs.declared.Jp2.{Jp2}
+use Rattle.jp2_record.specs.State.{headerBit}
 use Rattle.jp2_record.specs.Answer.{Result, accepted, refused}
 use Rattle.jp2_walk.specs.Split.{Boxes, firstBox, split}
-use Rattle.jp2_walk.specs.Step.{Heads}
+use Rattle.jp2_walk.specs.HeaderBox.{headerBox}
+use Rattle.jp2_walk.proofs.Ways.{box-child, box-jp2h}
 use Rattle.jp2_walk.proofs.Faults.{split-none}
 use Rattle.jp2_file.specs.declared.Reading.{Reading}
 use Rattle.jp2_file.specs.declared.Found.{Found}
 use Rattle.jp2_file.specs.declared.Found.the-variants.{Nothing, Codestream, Short, Past, Whole}
 use Rattle.jp2_file.specs.File.{Walked, ended, turnedDown, thenWalk, stream, pastEnd, outer, run, reading}
-use Rattle.jp2_file.specs.Turn.{found, box, boxAt, inner, pastKind}
+use Rattle.jp2_file.specs.Turn.{found, Heads, box, boxAt, inner, pastKind}
 
 -- what was answered is what the definition says; where the file has ended, whatever the record before it
 pub gives : (j : Jp2) (w v : Walked) {r : Reading} → r ≡ reading j w → w ≡ v → r ≡ reading j v
@@ -36,13 +42,13 @@ pub gives-end : (j k : Jp2) (v : Walked) {r : Reading} → r ≡ reading k (ende
 unfolding reading
 gives-end j k v e f = e ∙ ap (reading j) f
 
--- the tags of the kinds other than jP, ftyp and jp2h
+-- the tags of the kinds other than jP and ftyp
 abbrev pub others : List ℕ
-others = 0 ∷ 1 ∷ 5 ∷ 6 ∷ 7 ∷ 8 ∷ 9 ∷ 10 ∷ 11 ∷ 12 ∷ 13 ∷ 14 ∷ 15 ∷ 16 ∷ 17 ∷ 18 ∷ 19 ∷ 20 ∷ []
+others = 0 ∷ 1 ∷ 4 ∷ 5 ∷ 6 ∷ 7 ∷ 8 ∷ 9 ∷ 10 ∷ 11 ∷ 12 ∷ 13 ∷ 14 ∷ 15 ∷ 16 ∷ 17 ∷ 18 ∷ 19 ∷ 20 ∷ []
 
-pub not-read : {k : Jp2BoxType} {n : ℕ} → k ≡ kindOf n → OneOf others (tagOf the-type k) → (n ≡ 0x6a502020 → ⊥) × (n ≡ 0x66747970 → ⊥) × (n ≡ 0x6a703268 → ⊥)
+pub not-read : {k : Jp2BoxType} {n : ℕ} → k ≡ kindOf n → OneOf others (tagOf the-type k) → (n ≡ 0x6a502020 → ⊥) × (n ≡ 0x66747970 → ⊥)
 unfolding kindOf table
-not-read e h = (not-kind others 0x6a502020 tt e h, not-kind others 0x66747970 tt e h, not-kind others 0x6a703268 tt e h)
+not-read e h = (not-kind others 0x6a502020 tt e h, not-kind others 0x66747970 tt e h)
 
 pub not-stream : {k : Jp2BoxType} {n : ℕ} → k ≡ kindOf n → OneOf (0 ∷ 1 ∷ 2 ∷ 3 ∷ 4 ∷ 5 ∷ 6 ∷ 8 ∷ 9 ∷ 10 ∷ 11 ∷ 12 ∷ 13 ∷ 14 ∷ 15 ∷ 16 ∷ 17 ∷ 18 ∷ 19 ∷ 20 ∷ []) (tagOf the-type k) → n ≡ 0x6a703263 → ⊥
 unfolding kindOf table
@@ -53,13 +59,36 @@ pub whole-box : {at : ℕ} {c : List ℕ} {h : Jp2BoxHeader} {content : List ℕ
     → box (numberOf (h .ty)) at (at + h .«header_length») content ≡ firstBox at c
 whole-box p e = let t = is-kind (p .ty) refl in let l = p .long in let m = p .head in cc
 
--- a box of the file that is not jP, ftyp or jp2h
-pub outer-inner : (n place start : ℕ) (c : List ℕ) (k : Jp2) → (n ≡ 0x6a502020 → ⊥) → (n ≡ 0x66747970 → ⊥) → (n ≡ 0x6a703268 → ⊥)
-    → inner (kindOf n) place start c k ≡ outer (box n place start c) k
-unfolding inner outer
-outer-inner n place start c k p q r =
-    each (λ (x : Result). x ≡ outer (box n place start c) k) _
-    ((λ h. row 3 _ (p, (q, (r, h))) refl), λ h. ((λ f. row 4 _ (p, (q, (r, (h, f)))) refl), λ f. row 5 _ (p, (q, (r, (h, (f, tt))))) refl))
+-- a kind of the file has one of three numbers
+file-number : (k : Jp2BoxType) → (numberOf k ≡ 0x6a502020 → ⊥) → (numberOf k ≡ 0x66747970 → ⊥) → (numberOf k ≡ 0x6a703268 → ⊥) → isFileHeader k ≡ false
+file-number k = elim k [ None ↦ λ p q r. refl | JPIP ↦ λ p q r. refl | JP ↦ λ p q r. absurd (p refl) | FTYP ↦ λ p q r. absurd (q refl) | JP2H ↦ λ p q r. absurd (r refl) | IHDR ↦ λ p q r. refl | COLR ↦ λ p q r. refl | JP2C ↦ λ p q r. refl | URL ↦ λ p q r. refl | PCLR ↦ λ p q r. refl | CMAP ↦ λ p q r. refl | CDEF ↦ λ p q r. refl | DTBL ↦ λ p q r. refl | BPCC ↦ λ p q r. refl | JP2 ↦ λ p q r. refl | RES ↦ λ p q r. refl | JP2I ↦ λ p q r. refl | XML ↦ λ p q r. refl | UUID ↦ λ p q r. refl | UINF ↦ λ p q r. refl | Unknown n ↦ λ p q r. refl ]
+
+-- jp2h is a kind of the file, and none of those inside it
+jp2h-kind : (n : ℕ) → n ≡ 0x6a703268 → (isFileHeader (kindOf n) ≡ true) × (isImageHeader (kindOf n) ≡ false)
+unfolding kindOf table
+jp2h-kind n z = (ap (λ (m : ℕ). isFileHeader (kindOf m)) z, ap (λ (m : ℕ). isImageHeader (kindOf m)) z)
+
+-- a box of the file that is not jP or ftyp
+module _ (n place start : ℕ) (c : List ℕ) (k : Jp2) (p : n ≡ 0x6a502020 → ⊥) (q : n ≡ 0x66747970 → ⊥) (room : start + length c ≤ 4294967295) where
+  outer-read : (isImageHeader (kindOf n) ≡ true → headerBit k ≡ 0 → ⊥) → (isFileHeader (kindOf n) ≡ false → isImageHeader (kindOf n) ≡ true) → headerBox (kindOf n) place start c k ≡ outer (box n place start c) k
+  unfolding outer
+  outer-read e f = either (eqb n 0x6a703268) at-jp2h at-child
+    where
+      at-jp2h : eqb n 0x6a703268 ≡ true → headerBox (kindOf n) place start c k ≡ outer (box n place start c) k
+      at-jp2h b = let z = eqb-true n 0x6a703268 b in row 2 _ (p, (q, z)) (box-jp2h (kindOf n) place start c k room (jp2h-kind n z .1))
+
+      at-child : eqb n 0x6a703268 ≡ false → headerBox (kindOf n) place start c k ≡ outer (box n place start c) k
+      at-child b =
+          let r = eqb-false n 0x6a703268 b in
+          let m = kinds-and-numbers .number-back n in
+          let i = f (file-number (kindOf n) (λ x. p (sym m ∙ x)) (λ x. q (sym m ∙ x)) (λ x. r (sym m ∙ x))) in
+          row 4 _ (p, (q, (r, (e, i)))) (box-child (kindOf n) place start c k room i)
+
+  pub outer-inner : inner (kindOf n) place start c k ≡ outer (box n place start c) k
+  unfolding inner outer
+  outer-inner =
+      each (λ (x : Result). x ≡ outer (box n place start c) k) _
+      ((λ h. row 3 _ (p, (q, ((λ z. true-false (sym (h .0) ∙ jp2h-kind n z .1)), h))) refl), λ h. ((λ f. outer-read h f), λ f. row 5 _ (p, (q, ((λ z. true-false (sym (jp2h-kind n z .0) ∙ f .0)), (h, (f .1, tt))))) refl))
 
 then-same : (r : Result) (f g : Jp2 → Walked) → ((m : Jp2) → f m ≡ g m) → thenWalk r f ≡ thenWalk r g
 then-same (accepted m) f g h = h m

@@ -7,7 +7,6 @@ use mathlib.Core.List.{List}
 use lib.ListN.{length, take, drop, length-drop}
 use lib.Seq.{take-all}
 use Rattle.jp2_cio.proofs.Rows.{row}
-use Rattle.jp2_box.specs.Box.{headerLength, boxLength}
 use Rattle.jp2_box.proofs.Headers.{header-least}
 use Rattle.jp2_box.specs.declared.consts.Jp2BoxType.{Jp2BoxType}
 use Rattle.jp2_box.specs.declared.header.Jp2BoxHeader.{Jp2BoxHeader}
@@ -17,12 +16,11 @@ use Rattle.jp2_record.specs.declared.Answer.the-variants.{Done, Refused}
 use Rattle.jp2_record.specs.Answer.{answer}
 use Rattle.jp2_record.proofs.Told.{answer-done, answer-refused}
 use Rattle.jp2_walk.specs.Split.{firstBox, split, boxes}
-use Rattle.jp2_walk.specs.Step.{Heads}
 use Rattle.jp2_walk.proofs.Faults.{split-none}
 use Rattle.jp2_file.specs.declared.Found.{Found}
 use Rattle.jp2_file.specs.declared.Found.the-variants.{Nothing, Codestream, Short, Past, Whole}
 use Rattle.jp2_file.specs.File.{Walked, ended, turnedDown, stream, outer, run, walk}
-use Rattle.jp2_file.specs.Turn.{found, boxAt, pastKind}
+use Rattle.jp2_file.specs.Turn.{found, Heads, boxAt, pastKind}
 use Rattle.jp2_file.proofs.Turns.{found-tells}
 
 -- c, at a place of the file, is what is left: run from the record k it comes to w

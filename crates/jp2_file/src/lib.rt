@@ -2,14 +2,14 @@
 ghost use Prim.Native.Nat.{_+_, _≤_};
 ghost use mathlib.Core.Path.{_≡_};
 ghost use lib.ListN.{length};
+ghost use Rattle.jp2_cio.specs.Table.{holds};
 ghost use Rattle.jp2_box.specs.Kind.{kindOf, numberOf};
 ghost use Rattle.jp2_record.specs.Record.{blank};
 ghost use Rattle.jp2_record.specs.State.{withBit, unknown, withUnknown};
 ghost use Rattle.jp2_record.specs.Answer.{accepted, answer};
 ghost use Rattle.jp2_file.specs.File.{ended, turnedDown, stream, other, outer, walk, read, reading};
-ghost use Rattle.jp2_file.specs.Turn.{found, box, boxAt, inner, pastKind};
+ghost use Rattle.jp2_file.specs.Turn.{found, Heads, box, boxAt, isRead, isEarly, inner, pastKind};
 ghost use Rattle.jp2_walk.specs.Split.{firstBox};
-ghost use Rattle.jp2_walk.specs.Step.{Heads};
 use jp2_box::Jp2BoxHeader;
 use jp2_box::Jp2BoxType;
 use jp2_box::ReadHeader;
@@ -135,16 +135,36 @@ fn read_other(at: u32, start: u32, k: Jp2) -> Outcome
     skip(k)
 }
 
-// A box of the file other than jP, ftyp and jp2h.
+// Whether boxes of this kind are read, in the file or in jp2h.
+fn is_read(ty: Jp2BoxType) -> bool
+    ensures { λ r. ⌜ r ≡ holds (isRead ty) ⌝ }
+{
+    if ty.is_file_header() {
+        return true;
+    }
+    ty.is_image_header()
+}
+
+// Whether this is a box of jp2h that comes before the header bit is set.
+fn is_early(ty: Jp2BoxType, state: u32) -> bool
+    ensures { λ r. ⌜ r ≡ holds (isEarly ty state) ⌝ }
+{
+    if ty.is_image_header() {
+        return state / 4 % 2 == 0;
+    }
+    false
+}
+
+// A box of the file other than jP and ftyp.
 fn read_inner(ty: Jp2BoxType, c: &[u8], at: u32, start: u32, k: Jp2) -> Outcome
     ensures { λ r. ⌜ r ≡ answer k (inner ty at start (now (c .entry)) k) ⌝ }
 {
-    if ty.is_image_header() {
-        let status = k.status;
-        if status.state / 4 % 2 == 0 {
-            return skip(k);
-        }
-        return jp2_walk::read_content(ty, c, at, start, k);
+    let status = k.status;
+    if is_early(ty, status.state) {
+        return skip(k);
+    }
+    if is_read(ty) {
+        return jp2_walk::read_header_box(ty, c, at, start, k);
     }
     read_other(at, start, k)
 }
@@ -157,7 +177,6 @@ fn read_outer(ty: Jp2BoxType, c: &[u8], at: u32, start: u32, k: Jp2) -> Outcome
     match ty {
         Jp2BoxType::JP => jp2_signature::opj_jp2_read_jp(c, at, start, k),
         Jp2BoxType::FTYP => jp2_signature::opj_jp2_read_ftyp(c, at, start, k),
-        Jp2BoxType::JP2H => jp2_walk::opj_jp2_read_jp2h(c, at, start, k),
         _ => read_inner(ty, c, at, start, k),
     }
 }
@@ -166,10 +185,7 @@ fn read_outer(ty: Jp2BoxType, c: &[u8], at: u32, start: u32, k: Jp2) -> Outcome
 fn read_past(ty: Jp2BoxType, at: u32, k: Jp2, j: Jp2) -> Reading
     ensures { λ r. ⌜ r ≡ reading j (pastKind ty at k) ⌝ }
 {
-    if ty.is_file_header() {
-        return turned_down(4, at, j);
-    }
-    if ty.is_image_header() {
+    if is_read(ty) {
         return turned_down(4, at, j);
     }
     let outcome = read_other(at, 0, k);

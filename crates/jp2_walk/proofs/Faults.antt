@@ -9,31 +9,43 @@ use Rattle.jp2_cio.proofs.Rows.{row, each}
 use Rattle.jp2_box.specs.Box.{LBox, headerLength, boxLength, headerOf}
 use Rattle.jp2_box.specs.declared.header.Jp2BoxHeader.{Jp2BoxHeader}
 use Rattle.jp2_record.specs.declared.Jp2.{Jp2}
-use Rattle.jp2_record.specs.Answer.{Result, refused}
+use Rattle.jp2_record.specs.Answer.{refused}
 use Rattle.jp2_walk.specs.Split.{Boxes, noBytes, _▸_, firstBox, split}
 use Rattle.jp2_walk.specs.Jp2h.{readAll}
-use Rattle.jp2_walk.specs.Step.{fault, found}
-use Rattle.jp2_walk.specs.declared.Child.{Child}
-use Rattle.jp2_walk.specs.declared.Child.the-variants.{Fault, Found}
+use Rattle.jp2_walk.specs.Step.{fault, firstItem, nextChild}
+use Rattle.jp2_walk.specs.declared.Item.{Item}
+use Rattle.jp2_walk.specs.declared.Next.{Next}
+use Rattle.jp2_walk.specs.declared.Next.the-variants.{Nothing, Fault, Found}
 
-module _ (c : List ℕ) where
-  pub found-fault : (n : ℕ) → fault c ≡ n → 0 < n → Fault n ≡ found c
-  unfolding found
-  found-fault n e h = row 0 _ (omega arith) (ap Fault (sym e))
+module _ (at : ℕ) (c : List ℕ) where
+  -- the box that a header of c tells
+  abbrev itemOf : Jp2BoxHeader → Item
+  itemOf h = record { ty = h .ty; place = at; head = h .«header_length»; size = h .length }
 
-  pub found-none : {h : Jp2BoxHeader} → h ≡ headerOf c → fault c ≡ 0 → Found h ≡ found c
-  unfolding found
-  found-none e z = row 1 _ (omega arith) (ap Found e)
+  pub next-none : length c ≡ 0 → Nothing ≡ nextChild at c
+  unfolding nextChild
+  next-none h = row 0 _ h refl
+
+  module _ (some : length c ≡ 0 → ⊥) where
+    pub next-fault : (n : ℕ) → fault c ≡ n → 0 < n → Fault n ≡ nextChild at c
+    unfolding nextChild
+    next-fault n e h = row 1 _ (some, omega arith) (ap Fault (sym e))
+
+    pub next-found : {h : Jp2BoxHeader} → h ≡ headerOf c → fault c ≡ 0 → Found (itemOf h) ≡ nextChild at c
+    unfolding nextChild
+    next-found e z = row 2 _ (some, (z, tt)) (ap (λ (h : Jp2BoxHeader). Found (itemOf h)) e)
 
   -- and back: what was found tells the fault
-  abbrev Tells : Child → Type 0
-  Tells (Fault n) = (n ≡ fault c) × (fault c ≡ 0 → ⊥)
-  Tells (Found h) = (h ≡ headerOf c) × (fault c ≡ 0)
+  abbrev Tells : Next → Type 0
+  Tells Nothing = length c ≡ 0
+  Tells (Fault n) = (0 < length c) × (n ≡ fault c) × (fault c ≡ 0 → ⊥)
+  Tells (Found b) = (0 < length c) × (b ≡ firstItem at c) × (fault c ≡ 0)
 
-  pub found-tells : {r l : Child} → r ≡ found c → r ≡ l → Tells l
-  unfolding found
-  found-tells e f = subst Tells (sym e ∙ f) (each Tells _ ((λ h. (refl, h)), λ h. (refl, h)))
+  pub next-tells : {r l : Next} → r ≡ nextChild at c → r ≡ l → Tells l
+  unfolding nextChild
+  next-tells e f = subst Tells (sym e ∙ f) (each Tells _ ((λ h. h), λ s. ((λ h. (omega arith, refl, h)), λ h. (omega arith, refl, h))))
 
+module _ (c : List ℕ) where
   pub fault-10 : (headerLength c ≤ length c → (LBox c ≡ 0 → ⊥) → 4294967295 < boxLength c) → fault c ≡ 10
   unfolding fault
   fault-10 h = sym (row 0 _ h refl)

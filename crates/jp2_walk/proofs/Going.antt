@@ -1,131 +1,153 @@
--- The loop over the children: what is left to split and read answers what the whole does.
+-- The loop over the boxes: what is left to split and read answers what the whole does.
 -- Assumes nothing.
-use Prim.Native.Nat.{ℕ, zero, suc, _+_, _-_, _/_, _%_, _≤_, _<_}
-use mathlib.Core.Path.{_≡_, refl, sym, ap, _∙_}
+use Prim.Native.Nat.{ℕ, zero, suc, _+_, _-_, _≤_, _<_}
+use native.Mathlib.Omega.{arith}
+use mathlib.Core.Path.{_≡_, refl, sym, ap, subst, _∙_}
 use mathlib.Core.Bool.{Bool, true, false, not, _&&_}
 use mathlib.Core.List.{List}
-use native.Mathlib.Omega.{arith}
 use lib.Dec.{eqb}
 use lib.ListN.{length, take, drop, length-drop}
 use lib.Seq.{take-all}
-use Rattle.jp2_box.specs.Box.{TBox, headerLength, boxLength}
-use Rattle.jp2_cio.proofs.Rows.{row}
-use Rattle.jp2_box.specs.Kind.{numberOf}
-use Rattle.jp2_box.specs.declared.header.Jp2BoxHeader.{Jp2BoxHeader}
+use Rattle.jp2_cio.specs.Number.{part}
+use Rattle.jp2_cio.specs.Table.{pick}
+use Rattle.jp2_cio.proofs.Rows.{true-false}
+use Rattle.jp2_box.specs.Kind.{kindOf, numberOf}
+use Rattle.jp2_box.specs.Box.{TBox, boxLength}
+use Rattle.jp2_box.specs.declared.consts.Jp2BoxType.{Jp2BoxType}
 use Rattle.jp2_box.proofs.Headers.{header-least}
-use Rattle.jp2_box.proofs.KindNumbers.{is-kind}
+use Rattle.jp2_box.proofs.KindNumbers.{is-kind, proper-kind}
 use Rattle.jp2_record.specs.declared.Jp2.{Jp2}
-use Rattle.jp2_record.specs.declared.Answer.the-variants.{Done, Refused}
 use Rattle.jp2_record.specs.declared.Outcome.{Outcome}
-use Rattle.jp2_record.specs.Answer.{Result, accepted, refused, answer, andThen}
+use Rattle.jp2_record.specs.declared.Answer.the-variants.{Done, Refused}
+use Rattle.jp2_record.specs.Answer.{Result, accepted, refused, answer}
 use Rattle.jp2_record.proofs.Told.{answer-done, answer-refused}
-use Rattle.jp2_walk.specs.declared.Child.{Child}
-use Rattle.jp2_walk.specs.declared.Child.the-variants.{Fault, Found}
-use Rattle.jp2_walk.specs.Split.{Boxes, _▸_, firstBox, split, boxes}
-use Rattle.jp2_walk.specs.Child.{child}
-use Rattle.jp2_walk.specs.Jp2h.{readAll, lacksIhdr, withHeaderBit, jp2h, jp2hAlone}
-use Rattle.jp2_record.specs.Record.{withImgstate}
-use Rattle.jp2_record.specs.State.{fileTypeBit}
-use Rattle.jp2_walk.specs.Step.{fault, found, Heads}
-use Rattle.jp2_walk.proofs.Faults.{found-tells, sound, split-none, split-fault, split-more}
+use Rattle.jp2_walk.specs.declared.Item.{Item}
+use Rattle.jp2_walk.specs.declared.Next.{Next}
+use Rattle.jp2_walk.specs.declared.Next.the-variants.{Nothing, Fault, Found}
+use Rattle.jp2_walk.specs.Split.{split}
+use Rattle.jp2_walk.specs.Child.{reader}
+use Rattle.jp2_walk.specs.Jp2h.{readAll, lacksIhdr}
+use Rattle.jp2_walk.specs.Step.{fault, loneItem, firstItem, next, readItem}
+use Rattle.jp2_walk.proofs.Faults.{next-tells, sound, split-none, split-more, split-fault}
+
+-- what is left, a box that is alone or the boxes of c, is read to w; l is whether an ihdr lacks then
+abbrev Left : Bool → Jp2BoxType → ℕ → Result → Bool → ℕ → ℕ → List ℕ → Bool → Jp2 → Type 0
+Left true kind place w l fuel at c lacks k = (reader kind place at c k ≡ w) × (lacks ≡ false) × (l ≡ false)
+Left false kind place w l fuel at c lacks k = (readAll (split fuel at c) k ≡ w) × ((lacksIhdr (split fuel at c) && lacks) ≡ l)
+
+pub record Going (kind : Jp2BoxType) (place : ℕ) (w : Result) (l lone : Bool) (at : ℕ) (c : List ℕ) (lacks : Bool) (k : Jp2) : Type 0 where
+  pub fuel : ℕ
+  pub enough : length c ≤ fuel
+  pub room : at + length c ≤ 4294967295
+  pub left : Left lone kind place w l fuel at c lacks k
+
+-- a box that was found lies in c, and what its reader answers tells of the whole
+pub record Here (kind : Jp2BoxType) (place : ℕ) (w : Result) (l : Bool) (at : ℕ) (c : List ℕ) (lacks : Bool) (k : Jp2) (b : Item) : Type 0 where
+  pub head : b .head ≤ length c
+  pub size : b .size ≤ length c
+  pub proper : lacks ≡ true → b .ty ≡ kindOf (numberOf (b .ty))
+  pub stop : {n p : ℕ} → readItem b at c k ≡ refused n p → w ≡ refused n p
+  pub on : {m : Jp2} {lack : Bool} → readItem b at c k ≡ accepted m → lack ≡ (not (eqb (numberOf (b .ty)) 0x69686472) && lacks) → Going kind place w l false (at + b .size) (drop (b .size) c) lack m
+
+-- the turns that are left are bounded by this
+abbrev pub turns : Bool → List ℕ → ℕ
+turns lone c = pick lone 1 0 + length c
+
+and-no : (b : Bool) → (b && false) ≡ false
+and-no true = refl
+and-no false = refl
 
 and-swap : (a b d : Bool) → ((a && b) && d) ≡ (b && (a && d))
 and-swap false true d = refl
 and-swap false false d = refl
 and-swap true b d = refl
 
--- the children of `whole`, read from the record j: what is left answers what the whole does
-pub record Going (whole : Boxes) (j : Jp2) (at : ℕ) (c : List ℕ) (lacks : Bool) (k : Jp2) : Type 0 where
-  pub fuel : ℕ
-  pub enough : length c ≤ fuel
-  pub room : at + length c ≤ 4294967295
-  pub same : readAll (split fuel at c) k ≡ readAll whole j
-  pub lack : (lacksIhdr (split fuel at c) && lacks) ≡ lacksIhdr whole
+-- the rest of c, as the code has it
+rest : (c : List ℕ) (n : ℕ) → take (length c - n) (drop n c) ≡ drop n c
+rest c n = take-all (length c - n) (drop n c) (rw length-drop (omega arith))
 
-module _ {whole : Boxes} {j : Jp2} {at : ℕ} {c : List ℕ} {lacks : Bool} {k : Jp2} (g : Going whole j at c lacks k) where
-  pub going-end : length c ≡ 0 → (readAll whole j ≡ accepted k) × (lacksIhdr whole ≡ lacks)
+part-all : (c : List ℕ) → part c 0 (length c) ≡ c
+unfolding part
+part-all c = take-all (length c - 0) c (omega arith)
+
+module _ {kind : Jp2BoxType} {place : ℕ} {w : Result} {l : Bool} {at : ℕ} {c : List ℕ} {lacks : Bool} {k : Jp2} where
+  pub going-end : (lone : Bool) → Going kind place w l lone at c lacks k → {r : Next} → r ≡ next lone kind place at c → r ≡ Nothing → (w ≡ accepted k) × (l ≡ lacks)
   unfolding readAll lacksIhdr
-  going-end z = (rw (split-none at c (g .fuel) z) at (sym (g .same)), rw (split-none at c (g .fuel) z) at (sym (g .lack)))
+  going-end true g e f = let z : _≡_ {A = ℕ} 0 1 = cc in absurd (omega arith)
+  going-end false g e f = let z = next-tells at c e f in (sym (g .left .0) ∙ rw (split-none at c (g .fuel) z), sym (g .left .1) ∙ rw (split-none at c (g .fuel) z))
 
-  module _ (some : 0 < length c) {r : Child} (e : r ≡ found c) where
-    -- with one more of the fuel
-    with-fuel : (P : ℕ → Type 0) → ((n : ℕ) → P (suc n)) → P (g .fuel)
-    with-fuel P h = go (g .fuel) (g .enough)
-      where
-        go : (n : ℕ) → length c ≤ n → P n
-        go zero l = absurd (omega arith)
-        go (suc n) l = h n
+  -- with one more of the fuel
+  with-fuel : {lone : Bool} → 0 < length c → (g : Going kind place w l lone at c lacks k) → (P : ℕ → Type 0) → ((n : ℕ) → P (suc n)) → P (g .fuel)
+  with-fuel some g P h = go (g .fuel) (g .enough)
+    where
+      go : (n : ℕ) → length c ≤ n → P n
+      go zero l = absurd (omega arith)
+      go (suc n) l = h n
 
-    pub going-fault : {n : ℕ} → r ≡ Fault n → readAll whole j ≡ refused n at
-    going-fault {n} f =
-        let t = found-tells c e f in
-        with-fuel (λ (m : ℕ). readAll (split m at c) k ≡ readAll whole j → readAll whole j ≡ refused n at) (λ m s. sym s ∙ split-fault at c m k some (t .1) ∙ ap (λ (x : ℕ). refused x at) (sym (t .0))) (g .same)
+  pub going-fault : (lone : Bool) → Going kind place w l lone at c lacks k → {r : Next} {n : ℕ} → r ≡ next lone kind place at c → r ≡ Fault n → w ≡ refused n at
+  going-fault true g e f = let z : _≡_ {A = ℕ} 0 1 = cc in absurd (omega arith)
+  going-fault false g {r} {n} e f =
+      let t = next-tells at c e f in
+      with-fuel (t .0) g (λ (m : ℕ). readAll (split m at c) k ≡ w → w ≡ refused n at) (λ m s. sym s ∙ split-fault at c m k (t .0) (t .2) ∙ ap (λ (x : ℕ). refused x at) (sym (t .1))) (g .left .0)
 
-    module _ {h : Jp2BoxHeader} (f : r ≡ Found h) where
-      no-fault : fault c ≡ 0
-      no-fault = found-tells c e f .1
+  here-lone : Going kind place w l true at c lacks k → Here kind place w l at c lacks k (loneItem kind place c)
+  unfolding split readAll lacksIhdr
+  here-lone g =
+      record {
+        head = omega arith;
+        size = omega arith;
+        proper = λ t. true-false (sym t ∙ g .left .1);
+        stop = λ e. sym (g .left .0) ∙ whole e;
+        on = λ {m} {lack} e h.
+            record {
+              fuel = 0;
+              enough = rw length-drop (omega arith);
+              room = rw length-drop (omega (arith, g .room));
+              left = (sym (whole e) ∙ g .left .0, h ∙ rw (g .left .1, g .left .2) (and-no (not (eqb (numberOf kind) 0x69686472))));
+            };
+      }
+    where
+      whole : {r : Result} → readItem (loneItem kind place c) at c k ≡ r → reader kind place at c k ≡ r
+      whole e = let z : at + 0 ≡ at = omega arith in rw (z, part-all c) at e
 
-      pub going-heads : Heads at c h
-      going-heads =
-          let q = found-tells c e f .0 in
-          let w = sound c no-fault in
-          record { ty = ap (λ (x : Jp2BoxHeader). x .ty) q; long = ap (λ (x : Jp2BoxHeader). x .length) q; head = ap (λ (x : Jp2BoxHeader). x .«header_length») q; least = w .least; most = w .most; room = g .room }
+  here-child : 0 < length c → fault c ≡ 0 → Going kind place w l false at c lacks k → Here kind place w l at c lacks k (firstItem at c)
+  unfolding readAll lacksIhdr
+  here-child some z g =
+      let q = sound c z in
+      record {
+        head = omega (arith, q .header);
+        size = omega (arith, q .most);
+        proper = λ t. proper-kind (TBox c) refl;
+        stop = λ {n} {p} e. with-fuel some g (λ (m : ℕ). readAll (split m at c) k ≡ w → w ≡ refused n p) (λ m s. sym s ∙ rw (split-more at c m some z, e)) (g .left .0);
+        on = λ {m} {lack} e h. with-fuel some g (λ (n : ℕ). length c ≤ n → readAll (split n at c) k ≡ w → (lacksIhdr (split n at c) && lacks) ≡ l → Going kind place w l false (at + boxLength c) (drop (boxLength c) c) lack m) (λ n b s t.
+            record {
+              fuel = n;
+              enough = rw length-drop (omega (arith, header-least c, q .least));
+              room = rw length-drop (omega (arith, g .room, q .most));
+              left = (rw (split-more at c n some z, e) at s, rw h (rw (sym (is-kind {n = TBox c} refl refl)) (sym (and-swap (not (eqb (TBox c) 0x69686472)) (lacksIhdr (split n (at + boxLength c) (drop (boxLength c) c))) lacks)) ∙ rw (split-more at c n some z) at t));
+            }) (g .enough) (g .left .0) (g .left .1);
+      }
 
-      pub going-fits : (8 ≤ h .length) × (h .length ≤ length c)
-      going-fits = let p = going-heads in omega (arith, header-least c, p .long, p .least, p .most)
+  pub here : (lone : Bool) → Going kind place w l lone at c lacks k → {r : Next} {b : Item} → r ≡ next lone kind place at c → r ≡ Found b → Here kind place w l at c lacks k b
+  here true g {r} {b} e f =
+      let q : loneItem kind place c ≡ b = cc in
+      subst (Here kind place w l at c lacks k) q (here-lone g)
+  here false g e f = let t = next-tells at c e f in subst (Here kind place w l at c lacks k) (sym (t .1)) (here-child (t .0) (t .2) g)
 
-      -- the rest of c, as the code has it
-      rest : take (length c - h .length) (drop (h .length) c) ≡ drop (h .length) c
-      rest = take-all (length c - h .length) (drop (h .length) c) (rw length-drop (omega arith))
+  pub going-less : (lone : Bool) → Going kind place w l lone at c lacks k → {r : Next} {b : Item} → r ≡ next lone kind place at c → r ≡ Found b → turns false (take (length c - b .size) (drop (b .size) c)) < turns lone c
+  going-less true g {r} {b} e f =
+      let q : loneItem kind place c ≡ b = cc in
+      let n : length c ≡ b .size = ap (λ (x : Item). x .size) q in
+      rw (rest c (b .size), length-drop) (omega arith)
+  going-less false g {r} {b} e f =
+      let t = next-tells at c e f in
+      let n : b .size ≡ boxLength c = ap (λ (x : Item). x .size) (t .1) in
+      rw (rest c (b .size), length-drop) (omega (arith, header-least c, sound c (t .2) .least))
 
-      pub going-less : length (take (length c - h .length) (drop (h .length) c)) < length c
-      going-less = let q = going-fits in rw (rest, length-drop) (omega arith)
+  module _ {b : Item} (h : Here kind place w l at c lacks k b) {o : Outcome} (d : o ≡ answer k (readItem b at c k)) where
+    pub going-stop : {n p : ℕ} → o .answer ≡ Refused n p → w ≡ refused n p
+    going-stop a = h .stop (answer-refused k (readItem b at c k) d a)
 
-      module _ {o : Outcome} (d : o ≡ answer k (child (firstBox at c) k)) where
-        pub going-stop : {n p : ℕ} → o .answer ≡ Refused n p → readAll whole j ≡ refused n p
-        unfolding readAll
-        going-stop {n} {p} a =
-            with-fuel (λ (m : ℕ). readAll (split m at c) k ≡ readAll whole j → readAll whole j ≡ refused n p)
-            (λ m s. sym s ∙ rw (split-more at c m some no-fault, answer-refused k (child (firstBox at c) k) d a)) (g .same)
-
-        pub going-on : {l : Bool} → o .answer ≡ Done → l ≡ (not (eqb (numberOf (h .ty)) 0x69686472) && lacks) → Going whole j (at + h .length) (take (length c - h .length) (drop (h .length) c)) l (o .jp2)
-        unfolding readAll lacksIhdr
-        going-on {l} a b = rw rest (with-fuel (λ (m : ℕ). length c ≤ m → readAll (split m at c) k ≡ readAll whole j → (lacksIhdr (split m at c) && lacks) ≡ lacksIhdr whole → Going whole j (at + h .length) (drop (h .length) c) l (o .jp2)) on (g .enough) (g .same) (g .lack))
-          where
-            on : (m : ℕ) → length c ≤ suc m → readAll (split (suc m) at c) k ≡ readAll whole j → (lacksIhdr (split (suc m) at c) && lacks) ≡ lacksIhdr whole → Going whole j (at + h .length) (drop (h .length) c) l (o .jp2)
-            on m n s t =
-                let q = going-fits in
-                let p = going-heads in
-                record {
-                  fuel = m;
-                  enough = rw length-drop (omega arith);
-                  room = rw length-drop (omega (arith, g .room));
-                  same = rw (p .long) (rw (split-more at c m some no-fault, answer-done k (child (firstBox at c) k) d a) at s);
-                  lack = rw (p .long, b, sym (is-kind (p .ty) refl)) (sym (and-swap (not (eqb (TBox c) 0x69686472)) (lacksIhdr (split m (at + boxLength c) (drop (boxLength c) c))) lacks) ∙ rw (split-more at c m some no-fault) at t);
-                }
-
-and-none : (b : Bool) → (b && true) ≡ b
-and-none true = refl
-and-none false = refl
-
-pub going-start : (start : ℕ) (c : List ℕ) (j : Jp2) → start + length c ≤ 4294967295 → Going (boxes start c) j start c true j
-going-start start c j h = record { fuel = length c; enough = omega arith; room = h; same = refl; lack = and-none (lacksIhdr (boxes start c)) }
-
--- the ways through jp2h
-module _ (place start : ℕ) (c : List ℕ) (j : Jp2) (room : start + length c ≤ 4294967295) where
-  pub alone : {r : Result} → r ≡ jp2h place start c j → r ≡ jp2hAlone place start c j
-  unfolding jp2hAlone
-  alone e = row 1 _ (room, tt) e
-
-  module _ (on : fileTypeBit j ≡ 0 → ⊥) where
-    pub jp2h-stop : {n p : ℕ} → readAll (boxes start c) (withImgstate 0 j) ≡ refused n p → refused n p ≡ jp2hAlone place start c j
-    unfolding jp2h
-    jp2h-stop e = alone (row 1 _ (on, tt) (rw e))
-
-    pub jp2h-lacks : {k : Jp2} → readAll (boxes start c) (withImgstate 0 j) ≡ accepted k → lacksIhdr (boxes start c) ≡ true → refused 12 place ≡ jp2hAlone place start c j
-    unfolding jp2h
-    jp2h-lacks e f = alone (row 1 _ (on, tt) (rw e (row 0 _ f refl)))
-
-    pub jp2h-done : {k m : Jp2} → readAll (boxes start c) (withImgstate 0 j) ≡ accepted k → lacksIhdr (boxes start c) ≡ false → m ≡ withHeaderBit k → accepted m ≡ jp2hAlone place start c j
-    unfolding jp2h
-    jp2h-done e f g = alone (row 1 _ (on, tt) (rw e (row 1 _ (f, tt) (ap accepted g))))
+    pub going-on : {lack : Bool} → o .answer ≡ Done → lack ≡ (not (eqb (numberOf (b .ty)) 0x69686472) && lacks)
+        → Going kind place w l false (at + b .size) (take (length c - b .size) (drop (b .size) c)) lack (o .jp2)
+    going-on a q = rw (rest c (b .size)) (h .on (answer-done k (readItem b at c k) d a) q)

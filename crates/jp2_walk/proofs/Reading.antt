@@ -2,18 +2,22 @@
 -- Assumes nothing.
 use Prim.Native.Nat.{ℕ}
 use mathlib.Core.Path.{_≡_, refl}
+use mathlib.Core.Bool.{Bool, true, false, not, _&&_}
 use mathlib.Core.List.{List, [], _∷_}
+use lib.Dec.{eqb}
+use borrow.Author.Tests.{ne-eqb}
 use types.Run.{OneOf, miss}
 use denote.Enum.Declared.{tagOf}
 use Rattle.jp2_cio.specs.Table.{table}
-use Rattle.jp2_box.specs.Kind.{kindOf}
+use Rattle.jp2_cio.proofs.Rows.{either}
+use Rattle.jp2_box.specs.Kind.{kindOf, numberOf}
 use Rattle.jp2_box.specs.declared.consts.Jp2BoxType.{Jp2BoxType}
 use Rattle.jp2_box.specs.declared.consts.Jp2BoxType.the-variants.{None, JPIP, JP, FTYP, JP2H, IHDR, COLR, JP2C, URL, PCLR, CMAP, CDEF, DTBL, BPCC, JP2, RES, JP2I, XML, UUID, UINF, Unknown}
 use Rattle.jp2_box.proofs.consts.Jp2BoxType.{the-type}
 use Rattle.jp2_box.proofs.KindNumbers.{not-kind}
 use Rattle.jp2_record.specs.declared.Jp2.{Jp2}
 use Rattle.jp2_record.specs.declared.Outcome.{Outcome}
-use Rattle.jp2_record.specs.Answer.{Result, answer}
+use Rattle.jp2_record.specs.Answer.{answer}
 use Rattle.jp2_walk.specs.Child.{skipped, reader}
 
 -- the tags of the kinds that have no reader
@@ -43,9 +47,18 @@ unread UUID h = refl
 unread UINF h = refl
 unread (Unknown n) h = refl
 
-pub not-ihdr : {k : Jp2BoxType} {n : ℕ} → k ≡ kindOf n → OneOf (0 ∷ 1 ∷ 2 ∷ 3 ∷ 4 ∷ 6 ∷ 7 ∷ 8 ∷ 9 ∷ 10 ∷ 11 ∷ 12 ∷ 13 ∷ 14 ∷ 15 ∷ 16 ∷ 17 ∷ 18 ∷ 19 ∷ 20 ∷ []) (tagOf the-type k) → n ≡ 0x69686472 → ⊥
+-- the tags of the kinds other than ihdr
+abbrev pub not-ihdrs : List ℕ
+not-ihdrs = 0 ∷ 1 ∷ 2 ∷ 3 ∷ 4 ∷ 6 ∷ 7 ∷ 8 ∷ 9 ∷ 10 ∷ 11 ∷ 12 ∷ 13 ∷ 14 ∷ 15 ∷ 16 ∷ 17 ∷ 18 ∷ 19 ∷ 20 ∷ []
+
+not-ihdr : {k : Jp2BoxType} {n : ℕ} → k ≡ kindOf n → OneOf not-ihdrs (tagOf the-type k) → n ≡ 0x69686472 → ⊥
 unfolding kindOf table
-not-ihdr e h = not-kind (0 ∷ 1 ∷ 2 ∷ 3 ∷ 4 ∷ 6 ∷ 7 ∷ 8 ∷ 9 ∷ 10 ∷ 11 ∷ 12 ∷ 13 ∷ 14 ∷ 15 ∷ 16 ∷ 17 ∷ 18 ∷ 19 ∷ 20 ∷ []) 0x69686472 tt e h
+not-ihdr e h = not-kind not-ihdrs 0x69686472 tt e h
+
+-- a box that is no ihdr leaves it at what was lacking
+pub lacks-kept : (k : Jp2BoxType) (lacks : Bool) → (lacks ≡ true → k ≡ kindOf (numberOf k)) → OneOf not-ihdrs (tagOf the-type k) → lacks ≡ (not (eqb (numberOf k) 0x69686472) && lacks)
+lacks-kept k true p h = rw (ne-eqb _ _ (not-ihdr (p refl) h))
+lacks-kept k false p h = either (eqb (numberOf k) 0x69686472) (λ e. rw e) (λ e. rw e)
 
 -- what the reader of a kind answered
 module _ (place start : ℕ) (c : List ℕ) (j : Jp2) {r : Outcome} where

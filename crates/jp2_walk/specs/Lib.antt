@@ -1,4 +1,5 @@
 pub mod Split
 pub mod Child
 pub mod Jp2h
+pub mod HeaderBox
 pub mod Step

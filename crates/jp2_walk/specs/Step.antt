@@ -1,14 +1,22 @@
--- What stands where a child is to start, for the loop's own functions.
-use Prim.Native.Nat.{ℕ, _+_, _≤_}
-use mathlib.Core.Path.{_≡_}
+-- What the functions of the loop answer: the box that is read next, and the status before the first and after the last.
+use Prim.Native.Nat.{ℕ, _+_, _/_, _%_}
+use mathlib.Core.Bool.{Bool, true, false}
 use mathlib.Core.List.{List}
 use lib.ListN.{length}
-use Rattle.jp2_cio.specs.Table.{Test, _=?_, _≠?_, _<?_, _or_, Rows, otherwise, _⇒_∣_, table}
+use Rattle.jp2_cio.specs.Number.{part}
+use Rattle.jp2_cio.specs.Table.{Test, _=?_, _≠?_, _<?_, flag, _or_, Rows, otherwise, _⇒_∣_, table}
 use Rattle.jp2_box.specs.Kind.{kindOf}
-use Rattle.jp2_box.specs.Box.{LBox, TBox, headerLength, boxLength, headerOf}
-use Rattle.jp2_box.specs.declared.header.Jp2BoxHeader.{Jp2BoxHeader}
-use Rattle.jp2_walk.specs.declared.Child.{Child}
-use Rattle.jp2_walk.specs.declared.Child.the-variants.{Fault, Found}
+use Rattle.jp2_box.specs.Box.{LBox, TBox, headerLength, boxLength}
+use Rattle.jp2_box.specs.declared.consts.Jp2BoxType.{Jp2BoxType}
+use Rattle.jp2_record.specs.declared.Jp2.{Jp2}
+use Rattle.jp2_record.specs.declared.Status.{Status}
+use Rattle.jp2_record.specs.Record.{status}
+use Rattle.jp2_record.specs.State.{withBit}
+use Rattle.jp2_record.specs.Answer.{Result}
+use Rattle.jp2_walk.specs.Child.{reader}
+use Rattle.jp2_walk.specs.declared.Item.{Item}
+use Rattle.jp2_walk.specs.declared.Next.{Next}
+use Rattle.jp2_walk.specs.declared.Next.the-variants.{Nothing, Fault, Found}
 
 -- the number for which the first box of c is turned down, 0 for none
 unfoldable pub fault : List ℕ → ℕ
@@ -18,14 +26,31 @@ fault c =
     ∣ boxLength c <? headerLength c or length c <? boxLength c ⇒ 11
     ∣ otherwise 0)
 
-unfoldable pub found : List ℕ → Child
-found c = table (fault c ≠? 0 ⇒ Fault (fault c) ∣ otherwise (Found (headerOf c)))
+-- the first box of c, at a place of the file
+abbrev pub firstItem : ℕ → List ℕ → Item
+firstItem at c = record { ty = kindOf (TBox c); place = at; head = headerLength c; size = boxLength c }
 
--- a header that was read from c, whose box lies in it; c reaches no further than 32 bits from a place on
-pub record Heads (at : ℕ) (c : List ℕ) (h : Jp2BoxHeader) : Type 0 where
-  pub ty : h .ty ≡ kindOf (TBox c)
-  pub long : h .length ≡ boxLength c
-  pub head : h .«header_length» ≡ headerLength c
-  pub least : headerLength c ≤ boxLength c
-  pub most : boxLength c ≤ length c
-  pub room : at + length c ≤ 4294967295
+unfoldable pub nextChild : ℕ → List ℕ → Next
+nextChild at c = table (length c =? 0 ⇒ Nothing ∣ fault c ≠? 0 ⇒ Fault (fault c) ∣ otherwise (Found (firstItem at c)))
+
+-- a box that is alone has all of c as its content
+abbrev pub loneItem : Jp2BoxType → ℕ → List ℕ → Item
+loneItem kind place c = record { ty = kind; place = place; head = 0; size = length c }
+
+abbrev pub next : Bool → Jp2BoxType → ℕ → ℕ → List ℕ → Next
+next true kind place at c = Found (loneItem kind place c)
+next false kind place at c = nextChild at c
+
+abbrev pub readItem : Item → ℕ → List ℕ → Jp2 → Result
+readItem b at c k = reader (b .ty) (b .place) (at + b .head) (part c (b .head) (b .size)) k
+
+unfoldable pub refusal : Bool → ℕ → List ℕ → ℕ → ℕ
+refusal alone start c state = table (4294967295 <? start + length c ⇒ 4 ∣ flag alone ⇒ 0 ∣ state / 2 % 2 =? 0 ⇒ 9 ∣ otherwise 0)
+
+abbrev pub opened : Bool → Status → Status
+opened true s = s
+opened false s = status (s .state) 0 (s .hasjp2h) (s .hasihdr)
+
+abbrev pub closed : Bool → Status → Status
+closed true s = s
+closed false s = status (withBit 4 (s .state)) (s .imgstate) 1 (s .hasihdr)

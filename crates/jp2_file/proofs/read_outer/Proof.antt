@@ -1,17 +1,13 @@
 -- `jp2_file::read_outer` meets its contract.
 -- Assumes nothing.
 use native.Mathlib.Omega.{arith}
-use mathlib.Core.Path.{_≡_, refl, sym, ap, _∙_}
-use mathlib.Core.List.{[], _∷_}
-use Prim.Native.Nat.{ℕ}
-use Rattle.jp2_cio.specs.Table.{table}
+use mathlib.Core.Path.{refl, ap, _∙_}
 use Rattle.jp2_cio.proofs.Rows.{row}
-use Rattle.jp2_box.specs.Kind.{kindOf, numberOf}
+use Rattle.jp2_box.specs.Kind.{numberOf}
 use Rattle.jp2_record.proofs.Told.{told}
-use Rattle.jp2_walk.proofs.Going.{alone}
 use Rattle.jp2_file.specs.File.{outer}
-use Rattle.jp2_file.proofs.Turns.{not-read, outer-inner}
 use Rattle.jp2_file.specs.Turn.{inner}
+use Rattle.jp2_file.proofs.Turns.{not-read, outer-inner}
 use borrow.Author.Needs.{needs}
 use Rattle.jp2_file.proofs.read_outer.Statement.{statement}
 use Rattle.jp2_file.proofs.read_outer.Tie as tie
@@ -28,12 +24,6 @@ enum-told-2 c = search needs
 opj-jp2-read-ftyp-requires : tie.Need-opj-jp2-read-ftyp-requires
 opj-jp2-read-ftyp-requires c κs = search needs
 
-enum-told-3 : tie.Need-enum-told-3
-enum-told-3 c = search needs
-
-opj-jp2-read-jp2h-requires : tie.Need-opj-jp2-read-jp2h-requires
-opj-jp2-read-jp2h-requires c κs = search needs
-
 read-inner-requires : tie.Need-read-inner-requires
 read-inner-requires c κs = search needs
 
@@ -46,11 +36,7 @@ unfolding outer
 returns-2 c = let n = ap numberOf (c .before .enum-told2 .given .1) in told _ _ _ (c .opj-jp2-read-ftyp .ensures) (row 1 _ (omega arith) refl)
 
 returns-3 : tie.Need-returns-3
-unfolding outer
-returns-3 c = let n = ap numberOf (c .before .enum-told3 .given .1) in let a = c .before .before .before .before .args in told _ _ _ (c .opj-jp2-read-jp2h .ensures) (row 2 _ (omega arith) (sym (alone (a .at) (a .start) (a .c .now) (a .k) (c .before .before .before .before .pre .1) refl)))
-
-returns-4 : tie.Need-returns-4
-returns-4 c = let a = c .before .before .before .args in let p = c .before .before .before .pre .0 in let m = not-read p (c .before .match .keys4) in told _ _ _ (c .read-inner .ensures) (ap (λ t. inner t (a .at) (a .start) (a .c .now) (a .k)) p ∙ outer-inner (numberOf (a .ty)) (a .at) (a .start) (a .c .now) (a .k) (m .0) (m .1) (m .2))
+returns-3 c = let a = c .before .before .before .args in let p = c .before .before .before .pre in let m = not-read (p .0) (c .before .match .keys3) in told _ _ _ (c .read-inner .ensures) (ap (λ t. inner t (a .at) (a .start) (a .c .now) (a .k)) (p .0) ∙ outer-inner (numberOf (a .ty)) (a .at) (a .start) (a .c .now) (a .k) (m .0) (m .1) (p .1))
 
 pub read-outer-spec : {M : Type 1} → statement M
 read-outer-spec =
@@ -60,10 +46,7 @@ read-outer-spec =
     opj-jp2-read-jp-requires
     enum-told-2
     opj-jp2-read-ftyp-requires
-    enum-told-3
-    opj-jp2-read-jp2h-requires
     read-inner-requires
     returns
     returns-2
-    returns-3
-    returns-4)
+    returns-3)

@@ -1,9 +1,6 @@
 -- `jp2_walk::still_lacks` meets its contract.
 -- Assumes nothing.
-use mathlib.Core.Path.{refl, ap}
-use borrow.Author.Tests.{ne-eqb}
-use Rattle.jp2_box.specs.Kind.{numberOf}
-use Rattle.jp2_walk.proofs.Reading.{not-ihdr}
+use Rattle.jp2_walk.proofs.Reading.{lacks-kept}
 use borrow.Author.Needs.{needs}
 use Rattle.jp2_walk.proofs.still_lacks.Statement.{statement}
 use Rattle.jp2_walk.proofs.still_lacks.Tie as tie
@@ -15,7 +12,7 @@ returns : tie.Need-returns
 returns c = rw (c .enum-told .given .1)
 
 returns-2 : tie.Need-returns-2
-returns-2 c = rw (ne-eqb _ _ (not-ihdr (c .before .pre) (c .match .keys2)))
+returns-2 c = let a = c .before .args in lacks-kept (a .b .ty) (a .lacks) (c .before .pre) (c .match .keys2)
 
 pub still-lacks-spec : {M : Type 1} → statement M
 still-lacks-spec = tie.close (tie.spec enum-told returns returns-2)

@@ -1,0 +1,17 @@
+-- `jp2_walk::closed` meets its contract.
+-- Assumes nothing.
+use borrow.Author.Needs.{needs}
+use Rattle.jp2_walk.proofs.closed.Statement.{statement}
+use Rattle.jp2_walk.proofs.closed.Tie as tie
+
+returns : tie.Need-returns
+returns c = rw (c .if1 .taken)
+
+with-header-requires : tie.Need-with-header-requires
+with-header-requires c κs = search needs
+
+returns-2 : tie.Need-returns-2
+returns-2 c = rw (c .before .if1 .left, c .with-header .ensures)
+
+pub closed-spec : {M : Type 1} → statement M
+closed-spec = tie.close (tie.spec returns with-header-requires returns-2)
