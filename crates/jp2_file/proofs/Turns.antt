@@ -199,7 +199,7 @@ module _ (at : ℕ) (c : List ℕ) (k : Jp2) where
     Tells Nothing = Runs (ended k)
     Tells (Codestream m) = (m ≤ length c) × Runs (stream (boxAt at (at + m)) k)
     Tells Short = Runs (turnedDown 3 at)
-    Tells (Past kind) = Runs (pastKind kind at k)
+    Tells (Past h) = Runs (pastKind (h .ty) at k)
     Tells (Whole h) = (h ≡ headerOf c) × (headerLength c ≤ boxLength c) × (boxLength c ≤ length c) × Runs (thenWalk (outer (firstBox at c) k) (λ m. run (split n (at + boxLength c) (drop (boxLength c) c)) m))
 
     pub found-tells : {r f : Found} → r ≡ found c → r ≡ f → Tells f

@@ -8,7 +8,6 @@ use lib.ListN.{length, take, drop, length-drop}
 use lib.Seq.{take-all}
 use Rattle.jp2_cio.proofs.Rows.{row}
 use Rattle.jp2_box.proofs.Headers.{header-least}
-use Rattle.jp2_box.specs.declared.consts.Jp2BoxType.{Jp2BoxType}
 use Rattle.jp2_box.specs.declared.header.Jp2BoxHeader.{Jp2BoxHeader}
 use Rattle.jp2_record.specs.declared.Jp2.{Jp2}
 use Rattle.jp2_record.specs.declared.Outcome.{Outcome}
@@ -63,7 +62,7 @@ module _ {w : Walked} {at : ℕ} {c : List ℕ} {k : Jp2} (g : Going w at c k) w
     pub going-short : r ≡ Short → turnedDown 3 at ≡ w
     going-short f = runs-to (λ n. found-tells at c k n some e f)
 
-    pub going-past : {kind : Jp2BoxType} → r ≡ Past kind → pastKind kind at k ≡ w
+    pub going-past : {h : Jp2BoxHeader} → r ≡ Past h → pastKind (h .ty) at k ≡ w
     going-past f = runs-to (λ n. found-tells at c k n some e f)
 
     module _ {h : Jp2BoxHeader} (f : r ≡ Whole h) where

@@ -24,7 +24,7 @@ found c =
     (length c <? headerLength c or 4294967295 <? boxLength c ⇒ Nothing
     ∣ TBox c =? 0x6a703263 ⇒ Codestream (headerLength c)
     ∣ boxLength c <? headerLength c ⇒ Short
-    ∣ length c <? boxLength c ⇒ Past (kindOf (TBox c))
+    ∣ length c <? boxLength c ⇒ Past (headerOf c)
     ∣ otherwise (Whole (headerOf c)))
 
 -- a header that was read from c, whose box lies in it; c reaches no further than 32 bits from a place on

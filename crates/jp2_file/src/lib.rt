@@ -30,12 +30,13 @@ pub struct Reading {
     pub jp2: Jp2,
 }
 
-// What stands at a place of the file: no box, the codestream with its header's length, a box that is shorter than its header, one of a kind that reaches past the end, or a whole one.
+// What stands at a place of the file: no box, the codestream with its header's length, a box that is shorter than its header, one that reaches past the end, or a whole one.
+// The last two have the header as it was read: a kind alone would lie elsewhere, and be put together from its bytes at each box.
 pub enum Found {
     Nothing,
     Codestream(u32),
     Short,
-    Past(Jp2BoxType),
+    Past(Jp2BoxHeader),
     Whole(Jp2BoxHeader),
 }
 
@@ -53,7 +54,7 @@ fn find_box(c: &[u8]) -> Found
         return Found::Short;
     }
     if c.len() < h.length as usize {
-        return Found::Past(ty);
+        return Found::Past(h);
     }
     Found::Whole(h)
 }
@@ -229,7 +230,8 @@ pub fn opj_jp2_read_header_procedure(s: &[u8], j: Jp2) -> Reading
             Found::Short => {
                 return turned_down(3, at, j);
             }
-            Found::Past(ty) => {
+            Found::Past(h) => {
+                let ty = h.ty;
                 return read_past(ty, at, k, j);
             }
             Found::Whole(h) => {

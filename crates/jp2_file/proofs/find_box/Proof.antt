@@ -39,7 +39,7 @@ cast-if2 c = search needs
 
 returns-4 : tie.Need-returns-4
 unfolding found
-returns-4 c = let d = header-found (c .before .before .before .before .before .before .before .before .before .before .args .c .now) (c .before .before .before .before .before .before .before .before .from-stream .ensures) (c .before .before .before .before .before .before .h .given .1) in let t = ap (λ (x : Jp2BoxHeader). x .ty) (d .is) in row 3 _ ((d .whole, d .low), (not-stream t (c .before .before .before .before .match2 .keys2), (omega arith, omega arith))) (ap Past t)
+returns-4 c = let d = header-found (c .before .before .before .before .before .before .before .before .before .before .args .c .now) (c .before .before .before .before .before .before .before .before .from-stream .ensures) (c .before .before .before .before .before .before .h .given .1) in let t = ap (λ (x : Jp2BoxHeader). x .ty) (d .is) in row 3 _ ((d .whole, d .low), (not-stream t (c .before .before .before .before .match2 .keys2), (omega arith, omega arith))) (ap Past (d .is))
 
 returns-5 : tie.Need-returns-5
 unfolding found
