@@ -16,7 +16,7 @@ pub enum Item {
     Definition,
 }
 
-// A list in the file, each item after the other.
+// A list of the file.
 pub fn span(d: &mut [u8], at: usize, json: bool, item: Item, file: &[u8], list: Span) -> usize {
     items(
         d,
@@ -51,14 +51,14 @@ fn bytes(item: Item) -> usize {
     }
 }
 
-// The first n bytes of what is left, or all of them.
+// n, or as many bytes as are left.
 fn front(rest: &[u8], n: usize) -> usize
     ensures { λ r. do ⌜ r ≤ (← ⟦rest.len()⟧ .entry) ⌝ }
 {
     if n < rest.len() { n } else { rest.len() }
 }
 
-// Item i, which is in front of the list.
+// Item i, which stands in front of the list.
 fn show(d: &mut [u8], at: usize, json: bool, item: Item, i: usize, list: &[u8]) -> usize {
     if json {
         return json::item(d, at, item, i, list);
@@ -109,15 +109,15 @@ fn rows(
     k
 }
 
-// Entry i, which is in front of the list.
+// Entry i, which stands in front of the list.
 fn row(d: &mut [u8], at: usize, json: bool, i: usize, depths: &[u8], list: &[u8]) -> usize {
     if json {
-        let at = json::open_row(d, at, i);
+        let at = say::between(d, at, i, b",");
+        let at = say::byte(d, at, b'[');
         let at = values(d, at, b",", depths, list);
-        return say::text(d, at, b"]");
+        return say::byte(d, at, b']');
     }
-    let at = say::number(d, at, b"\n    entry ", i);
-    let at = say::text(d, at, b": ");
+    let at = say::fill(d, at, b"\n    entry #: ", &[i]);
     values(d, at, b" ", depths, list)
 }
 
@@ -129,28 +129,27 @@ fn values(d: &mut [u8], at: usize, between: &[u8], depths: &[u8], list: &[u8]) -
     while i < depths.len() {
         let size = front(rest, jp2_palette::entry_bytes(depths[i]));
         k = say::between(d, k, i, between);
-        k = value(d, k, rest, size);
+        k = decimal(d, k, jp2_cio::opj_read_bytes(rest, 0, size));
         rest = &rest[size..];
         i += 1;
     }
     k
 }
 
-// The value of the first bytes.
-fn value(d: &mut [u8], at: usize, list: &[u8], size: usize) -> usize {
-    decimal(d, at, jp2_cio::opj_read_bytes(list, 0, size))
-}
-
 // The numbers of CIELab, as many of them as count.
-pub fn series(d: &mut [u8], at: usize, between: &[u8], numbers: &[u32], n: usize) -> usize {
+pub fn series(d: &mut [u8], at: usize, between: &[u8], numbers: &[u32], n: u32) -> usize {
     let mut k = at;
-    let mut i = 0;
-    while i < numbers.len() && i < n {
-        k = say::between(d, k, i, between);
-        k = decimal(d, k, numbers[i]);
+    let mut i: u32 = 0;
+    while i < n {
+        k = say::between(d, k, i as usize, between);
+        k = decimal(d, k, nth(numbers, i as usize));
         i += 1;
     }
     k
+}
+
+fn nth(numbers: &[u32], i: usize) -> u32 {
+    if i < numbers.len() { numbers[i] } else { 0 }
 }
 
 fn decimal(d: &mut [u8], at: usize, n: u32) -> usize {

@@ -47,8 +47,12 @@ fn failed(d: &mut [u8], name: &[u8]) {
 
 fn too_large(d: &mut [u8], name: &[u8]) {
     let at = head(d, name);
-    let at = say::number(d, at, b": larger than the ", crate::ROOM);
-    let at = say::text(d, at, b" bytes that jp2info has room for\n");
+    let at = say::fill(
+        d,
+        at,
+        b": larger than the # bytes that jp2info has room for\n",
+        &[crate::ROOM],
+    );
     say::flush_to(libc::STDERR_FILENO, d, at);
 }
 
@@ -65,5 +69,5 @@ fn complain(d: &mut [u8], name: &[u8], reason: &[u8]) {
 
 fn head(d: &mut [u8], name: &[u8]) -> usize {
     let at = say::text(d, 0, b"jp2info: ");
-    quote::name(d, at, name)
+    quote::name(d, at, false, name)
 }

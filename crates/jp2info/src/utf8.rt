@@ -1,17 +1,5 @@
 // Which bytes of a text are UTF-8 (RFC 3629).
 
-// Whether every byte of s belongs to a character.
-pub fn is_utf8(s: &[u8]) -> bool {
-    let mut i = 0;
-    while i < s.len() {
-        if !is_part(s, i) {
-            return false;
-        }
-        i += 1;
-    }
-    true
-}
-
 // Whether byte i belongs to a character: one that starts there, or at one of the three bytes before it.
 pub fn is_part(s: &[u8], i: usize) -> bool {
     if 0 < character(s, i) {

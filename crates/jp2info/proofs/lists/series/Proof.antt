@@ -12,19 +12,22 @@ abbrev Inv-loop : tie.InvT-loop
 Inv-loop d₀ at between numbers n k₀ i₀ d k i = length d ≡ length d₀
 
 abbrev μ-loop : tie.MeasureT-loop
-μ-loop d₀ at between numbers n k₀ i₀ d k i = length numbers - i
+μ-loop d₀ at between numbers n k₀ i₀ d k i = n - i
 
 loop-holds : tie.Need-loop-holds Inv-loop μ-loop
 loop-holds c = omega arith
 
+cast-between : tie.Need-cast-between Inv-loop μ-loop
+cast-between c = search needs
+
 between-requires : tie.Need-between-requires Inv-loop μ-loop
 between-requires c κs = search needs
 
-mul-decimal : tie.Need-mul-decimal Inv-loop μ-loop
-mul-decimal c = omega arith
+cast-nth : tie.Need-cast-nth Inv-loop μ-loop
+cast-nth c = search needs
 
-shared-slice-read-decimal : tie.Need-shared-slice-read-decimal Inv-loop μ-loop
-shared-slice-read-decimal c = omega arith
+nth-requires : tie.Need-nth-requires Inv-loop μ-loop
+nth-requires c κs = search needs
 
 decimal-requires : tie.Need-decimal-requires Inv-loop μ-loop
 decimal-requires c κs = search needs
@@ -44,12 +47,6 @@ same-length c = omega arith
 returns : tie.Need-returns Inv-loop μ-loop
 returns c = search needs
 
-same-length-2 : tie.Need-same-length-2 Inv-loop μ-loop
-same-length-2 c = omega arith
-
-returns-2 : tie.Need-returns-2 Inv-loop μ-loop
-returns-2 c = search needs
-
 pub series-spec : {M : Type 1} → statement M
 series-spec =
     tie.close
@@ -57,14 +54,13 @@ series-spec =
     Inv-loop
     μ-loop
     loop-holds
+    cast-between
     between-requires
-    mul-decimal
-    shared-slice-read-decimal
+    cast-nth
+    nth-requires
     decimal-requires
     add-i
     loop-less
     loop-again
     same-length
-    returns
-    same-length-2
-    returns-2)
+    returns)

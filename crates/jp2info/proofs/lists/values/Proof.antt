@@ -29,8 +29,11 @@ front-requires c κs = search needs
 between-requires : tie.Need-between-requires Inv-loop μ-loop
 between-requires c κs = search needs
 
-value-requires : tie.Need-value-requires Inv-loop μ-loop
-value-requires c κs = search needs
+opj-read-bytes-requires : tie.Need-opj-read-bytes-requires Inv-loop μ-loop
+opj-read-bytes-requires c κs = search needs
+
+decimal-requires : tie.Need-decimal-requires Inv-loop μ-loop
+decimal-requires c κs = search needs
 
 sub-rest : tie.Need-sub-rest Inv-loop μ-loop
 sub-rest c = omega arith
@@ -67,7 +70,8 @@ values-spec =
     entry-bytes-requires
     front-requires
     between-requires
-    value-requires
+    opj-read-bytes-requires
+    decimal-requires
     sub-rest
     part-rest-start
     part-rest-end

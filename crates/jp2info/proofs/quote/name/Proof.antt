@@ -9,16 +9,13 @@ use Rattle.jp2info.proofs.quote.name.Statement.{statement}
 use Rattle.jp2info.proofs.quote.name.Tie as tie
 
 abbrev Inv-loop : tie.InvT-loop
-Inv-loop d₀ at s k₀ i₀ d k i = length d ≡ length d₀
+Inv-loop d₀ at json s k₀ i₀ d k i = length d ≡ length d₀
 
 abbrev μ-loop : tie.MeasureT-loop
-μ-loop d₀ at s k₀ i₀ d k i = length s - i
+μ-loop d₀ at json s k₀ i₀ d k i = length s - i
 
 loop-holds : tie.Need-loop-holds Inv-loop μ-loop
 loop-holds c = omega arith
-
-shared-slice-read-name-byte : tie.Need-shared-slice-read-name-byte Inv-loop μ-loop
-shared-slice-read-name-byte c = omega arith
 
 name-byte-requires : tie.Need-name-byte-requires Inv-loop μ-loop
 name-byte-requires c κs = search needs
@@ -45,7 +42,6 @@ name-spec =
     Inv-loop
     μ-loop
     loop-holds
-    shared-slice-read-name-byte
     name-byte-requires
     add-i
     loop-less
