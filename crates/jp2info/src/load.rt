@@ -1,7 +1,7 @@
 // A file by its name, into the room that is lent. Where that fails, standard error has a line with the name and the reason.
-// d is empty then, and serves to put that line together.
+use crate::line;
 use crate::quote;
-use crate::say;
+use libc::STDERR_FILENO;
 
 // How many bytes of the room are the file, or that there is none.
 pub enum Loaded {
@@ -9,65 +9,55 @@ pub enum Loaded {
     Nothing,
 }
 
-pub fn load(d: &mut [u8], name: &[u8], room: &mut [u8]) -> Loaded {
+pub fn load(name: &[u8], room: &mut [u8]) -> Loaded {
     let fd = os::open_read(name);
     if fd < 0 {
-        failed(d, name);
+        failed(name);
         return Loaded::Nothing;
     }
-    let loaded = read(d, fd, name, room);
+    let loaded = read(fd, name, room);
     libc::close(fd);
     loaded
 }
 
 // After the last byte one more read tells the file's end from a failure, as that of a folder, and from a file without room.
-fn read(d: &mut [u8], fd: i32, name: &[u8], room: &mut [u8]) -> Loaded {
+fn read(fd: i32, name: &[u8], room: &mut [u8]) -> Loaded {
     let n = io::read_full(fd, room);
     let mut more = [0u8; 1];
     let got = libc::read(fd, &mut more);
     if got < 0 {
-        failed(d, name);
+        failed(name);
         return Loaded::Nothing;
     }
     if got > 0 {
-        too_large(d, name);
+        complain(
+            name,
+            b": larger than the 5242880 bytes that jp2info has room for\n",
+        );
         return Loaded::Nothing;
     }
     if n == 0 {
-        complain(d, name, b": empty file\n");
+        complain(name, b": empty file\n");
     }
     Loaded::Whole(n)
 }
 
-// The reason is errno's text. Nothing comes between the call that failed and this.
-fn failed(d: &mut [u8], name: &[u8]) {
-    let at = head(d, name);
-    os::fail(jp2_cio::part(d, 0, at));
+// The reason is errno's text: nothing is called between what failed and this.
+fn failed(name: &[u8]) {
+    let mut d = io::large_buffer();
+    let at = head(&mut d, name);
+    os::fail(jp2_cio::part(&d, 0, at));
 }
 
-fn too_large(d: &mut [u8], name: &[u8]) {
-    let at = head(d, name);
-    let at = say::fill(
-        d,
-        at,
-        b": larger than the # bytes that jp2info has room for\n",
-        &[crate::ROOM],
-    );
-    say::flush_to(libc::STDERR_FILENO, d, at);
+pub fn complain(name: &[u8], reason: &[u8]) {
+    let mut d = io::large_buffer();
+    let at = head(&mut d, name);
+    let at = line::text(&mut d, at, reason);
+    io::write_all(STDERR_FILENO, jp2_cio::part(&d, 0, at));
 }
 
-// An argument of which only the beginning is known.
-pub fn too_long(d: &mut [u8], beginning: &[u8]) {
-    complain(d, beginning, b"..: File name too long\n");
-}
-
-fn complain(d: &mut [u8], name: &[u8], reason: &[u8]) {
-    let at = head(d, name);
-    let at = say::text(d, at, reason);
-    say::flush_to(libc::STDERR_FILENO, d, at);
-}
-
+// The name, of 4096 bytes at most, has room in the list even where each byte takes four.
 fn head(d: &mut [u8], name: &[u8]) -> usize {
-    let at = say::text(d, 0, b"jp2info: ");
-    quote::name(d, at, false, name)
+    let at = line::text(d, 0, b"jp2info: ");
+    quote::name_in(d, at, false, name)
 }

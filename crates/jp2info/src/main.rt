@@ -4,6 +4,7 @@ ghost use mathlib.Core.Path.{_≡_};
 ghost use lib.ListN.{length};
 
 mod json;
+mod line;
 mod lists;
 mod load;
 mod people;
@@ -15,25 +16,17 @@ mod words;
 
 use load::Loaded;
 
-// The most bytes of a file. It lies on the stack, usually of 8 MiB, of which the arguments may take 2 MiB.
-pub const ROOM: usize = 5242880;
-
-// What goes from word to word: whether --json was there, and where in the list of output the next byte goes.
-pub struct State {
-    pub json: bool,
-    pub at: usize,
-}
+// Most bytes of a file. They lie on the stack, which usually has 8 MiB, of which the arguments may take 2.
+const ROOM: usize = 5242880;
 
 fn main() {
     let count = os::arg_count();
-    let mut d = io::large_buffer();
     if count < 2 {
-        let at = usage::usage(&mut d, 0);
-        say::flush_to(libc::STDERR_FILENO, &d, at);
+        usage::usage(libc::STDERR_FILENO);
         return;
     }
     let mut room = room();
-    each_word(&mut d, count, &mut room);
+    each_word(count, &mut room);
 }
 
 fn room() -> [u8; ROOM]
@@ -42,37 +35,32 @@ fn room() -> [u8; ROOM]
     [0; ROOM]
 }
 
-fn each_word(d: &mut [u8], count: usize, room: &mut [u8]) {
-    let mut state = State { json: false, at: 0 };
+fn each_word(count: usize, room: &mut [u8]) {
+    let mut json = false;
     let mut i = 1;
     while i < count {
-        state = word(d, state, i, room);
+        json = word(json, i, room);
         i += 1;
     }
 }
 
-// Argument i: one of the two words, or a file's name.
-fn word(d: &mut [u8], state: State, i: usize, room: &mut [u8]) -> State {
+// Argument i, one of the two words or a file's name. Whether files come as JSON from here on.
+fn word(json: bool, i: usize, room: &mut [u8]) -> bool {
     let mut name = io::buffer();
     let n = os::arg(i, &mut name);
     if os::errno() != 0 {
-        load::too_long(d, &name);
-        return state;
+        load::complain(&name, b"..: File name too long\n");
+        return json;
     }
     if is(&name[..n], b"--json") {
-        return State {
-            json: true,
-            at: state.at,
-        };
+        return true;
     }
     if is(&name[..n], b"--help") {
-        let at = usage::usage(d, state.at);
-        return State {
-            json: state.json,
-            at: say::flush(d, at),
-        };
+        usage::usage(libc::STDOUT_FILENO);
+        return json;
     }
-    file(d, state, &name[..n], room)
+    file(json, &name[..n], room);
+    json
 }
 
 // Whether both have the same bytes.
@@ -90,22 +78,18 @@ fn is(s: &[u8], word: &[u8]) -> bool {
     true
 }
 
-fn file(d: &mut [u8], state: State, name: &[u8], room: &mut [u8]) -> State {
-    let loaded = load::load(d, name, room);
-    let Loaded::Whole(n) = loaded else {
-        return state;
-    };
-    let at = show(d, state, name, jp2_cio::part(room, 0, n));
-    State {
-        json: state.json,
-        at: say::flush(d, at),
+fn file(json: bool, name: &[u8], room: &mut [u8]) {
+    let loaded = load::load(name, room);
+    if let Loaded::Whole(n) = loaded {
+        show(json, name, jp2_cio::part(room, 0, n));
     }
 }
 
-fn show(d: &mut [u8], state: State, name: &[u8], file: &[u8]) -> usize {
+fn show(json: bool, name: &[u8], file: &[u8]) {
     let r = jp2_file::read_file(file);
-    if state.json {
-        return json::reading(d, state.at, name, file, r);
+    if json {
+        json::reading(name, file, r);
+        return;
     }
-    people::reading(d, state.at, name, file, r)
+    people::reading(name, file, r);
 }

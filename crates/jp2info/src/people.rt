@@ -2,6 +2,7 @@
 use crate::lists;
 use crate::lists::Item;
 use crate::quote;
+use crate::say;
 use crate::say::fill;
 use crate::say::text;
 use crate::words;
@@ -15,61 +16,63 @@ use jp2_record::Lab;
 use jp2_record::Palette;
 use jp2_record::Span;
 
-pub fn reading(d: &mut [u8], at: usize, name: &[u8], file: &[u8], r: Reading) -> usize {
-    let at = quote::name(d, at, false, name);
+pub fn reading(name: &[u8], file: &[u8], r: Reading) {
+    quote::name(false, name);
     let answer = r.answer;
     match answer {
         FileAnswer::Codestream(offset) => {
-            let at = record(d, at, file, r.jp2);
-            fill(d, at, b"\n  codestream: at #\n", &[offset as usize])
+            record(file, r.jp2);
+            fill(b"\n  codestream: at #", &[offset as usize]);
         }
         FileAnswer::Ended => {
-            let at = record(d, at, file, r.jp2);
-            text(d, at, b"\n  codestream: none, ended\n")
+            record(file, r.jp2);
+            text(b"\n  codestream: none, ended");
         }
-        FileAnswer::Refused(n, place) => refused(d, at, n, place),
+        FileAnswer::Refused(n, place) => refused(n, place),
     }
+    say::end(b"\n");
 }
 
-fn refused(d: &mut [u8], at: usize, n: u32, place: u32) -> usize {
-    let at = fill(d, at, b"\n  refused: #, ", &[n as usize]);
-    let at = words::cause(d, at, n);
-    fill(d, at, b", box at #\n", &[place as usize])
+fn refused(n: u32, place: u32) {
+    fill(b"\n  refused: #, ", &[n as usize]);
+    words::cause(n);
+    fill(b", box at #", &[place as usize]);
 }
 
-fn record(d: &mut [u8], at: usize, file: &[u8], jp2: Jp2) -> usize {
+fn record(file: &[u8], jp2: Jp2) {
     let lists = jp2.lists;
-    let at = filetype(d, at, file, jp2.filetype, lists.cl);
-    let at = image(d, at, jp2.image);
-    let at = list(d, at, b"\n  BPCC:", Item::Component, file, lists.bpcc);
-    let at = colour(d, at, jp2.colour, lists.icc);
-    let at = pclr(d, at, file, lists.pclr);
-    channels(d, at, file, lists.cmap, lists.cdef)
+    filetype(file, jp2.filetype, lists.cl);
+    image(jp2.image);
+    list(b"\n  BPCC:", Item::Component, file, lists.bpcc);
+    colour(jp2.colour, lists.icc);
+    pclr(file, lists.pclr);
+    list(b"\n  cmap:", Item::Mapping, file, lists.cmap);
+    list(b"\n  cdef:", Item::Definition, file, lists.cdef);
 }
 
-fn filetype(d: &mut [u8], at: usize, file: &[u8], t: FileType, cl: Span) -> usize {
+fn filetype(file: &[u8], t: FileType, cl: Span) {
     if words::is_typeless(t, cl) {
-        return text(d, at, b"\n  ftyp: none");
+        text(b"\n  ftyp: none");
+        return;
     }
-    let at = text(d, at, b"\n  BR:");
-    let at = code(d, at, t.brand);
-    let at = fill(d, at, b"\n  MinV: #\n  CL:", &[t.minversion as usize]);
-    lists::span(d, at, false, Item::Code, file, cl)
+    text(b"\n  BR:");
+    code(t.brand);
+    fill(b"\n  MinV: #\n  CL:", &[t.minversion as usize]);
+    lists::span(false, Item::Code, file, cl);
 }
 
-fn code(d: &mut [u8], at: usize, n: u32) -> usize {
-    let at = text(d, at, b" '");
-    let at = quote::code(d, at, false, n);
-    text(d, at, b"'")
+fn code(n: u32) {
+    text(b" '");
+    quote::code(false, n);
+    text(b"'");
 }
 
-fn image(d: &mut [u8], at: usize, image: Image) -> usize {
+fn image(image: Image) {
     if image.numcomps == 0 {
-        return text(d, at, b"\n  ihdr: none");
+        text(b"\n  ihdr: none");
+        return;
     }
-    let at = fill(
-        d,
-        at,
+    fill(
         b"\n  HEIGHT: #\
         \n  WIDTH: #\
         \n  NC: #\
@@ -81,133 +84,117 @@ fn image(d: &mut [u8], at: usize, image: Image) -> usize {
             image.bpc as usize,
         ],
     );
-    let at = bpc(d, at, image.bpc);
+    bpc(image.bpc);
     fill(
-        d,
-        at,
         b")\
         \n  C: #\
         \n  UnkC: #\
         \n  IPR: #",
         &[image.c as usize, image.unkc as usize, image.ipr as usize],
-    )
+    );
 }
 
-fn bpc(d: &mut [u8], at: usize, b: u32) -> usize {
+fn bpc(b: u32) {
     if b == 255 {
-        return text(d, at, b"the components differ");
+        text(b"the components differ");
+        return;
     }
-    words::depth(d, at, b)
+    words::depth(b);
 }
 
-fn list(d: &mut [u8], at: usize, before: &[u8], item: Item, file: &[u8], list: Span) -> usize {
+fn list(before: &[u8], item: Item, file: &[u8], list: Span) {
     if list.count == 0 {
-        return at;
+        return;
     }
-    let at = text(d, at, before);
-    lists::span(d, at, false, item, file, list)
+    text(before);
+    lists::span(false, item, file, list);
 }
 
-fn colour(d: &mut [u8], at: usize, colour: Colour, icc: Span) -> usize {
+fn colour(colour: Colour, icc: Span) {
     if words::is_colourless(colour) {
-        return text(d, at, b"\n  colr: none");
+        text(b"\n  colr: none");
+        return;
     }
-    let at = method(d, at, colour);
+    method(colour);
     if colour.meth == 1 {
-        return space(d, at, colour.enumcs, colour.lab);
+        space(colour.enumcs, colour.lab);
+        return;
     }
     if colour.meth == 2 {
-        return fill(d, at, b"\n  PROFILE: # bytes at #", &[icc.count, icc.place]);
+        fill(b"\n  PROFILE: # bytes at #", &[icc.count, icc.place]);
     }
-    at
 }
 
-fn method(d: &mut [u8], at: usize, colour: Colour) -> usize {
-    let at = fill(d, at, b"\n  METH: # (", &[colour.meth as usize]);
-    let at = words::method(d, at, colour.meth);
+fn method(colour: Colour) {
+    fill(b"\n  METH: # (", &[colour.meth as usize]);
+    words::method(colour.meth);
     fill(
-        d,
-        at,
         b")\
         \n  PREC: #\
         \n  APPROX: #",
         &[colour.precedence as usize, colour.approx as usize],
-    )
+    );
 }
 
-fn space(d: &mut [u8], at: usize, enumcs: u32, lab: Lab) -> usize {
-    let at = fill(d, at, b"\n  EnumCS: # (", &[enumcs as usize]);
-    let at = words::space(d, at, enumcs);
-    let at = text(d, at, b")");
+fn space(enumcs: u32, lab: Lab) {
+    fill(b"\n  EnumCS: # (", &[enumcs as usize]);
+    words::space(enumcs);
+    text(b")");
     if lab.count == 0 {
-        return at;
+        return;
     }
-    cielab(d, at, lab)
+    text(b"\n  CIELab: ");
+    lists::series(b" ", lab);
 }
 
-fn cielab(d: &mut [u8], at: usize, lab: Lab) -> usize {
-    let numbers = lab.numbers;
-    let at = text(d, at, b"\n  CIELab: ");
-    lists::series(d, at, b" ", &numbers, lab.count)
-}
-
-fn pclr(d: &mut [u8], at: usize, file: &[u8], p: Palette) -> usize {
+fn pclr(file: &[u8], p: Palette) {
     if p.columns == 0 {
-        return at;
+        return;
     }
-    let at = fill(
-        d,
-        at,
+    fill(
         b"\n  pclr: NE #, NPC #",
         &[p.entries as usize, p.columns as usize],
     );
-    let at = lists::columns(d, at, false, file, p);
-    lists::entries(d, at, false, file, p)
-}
-
-fn channels(d: &mut [u8], at: usize, file: &[u8], cmap: Span, cdef: Span) -> usize {
-    let at = list(d, at, b"\n  cmap:", Item::Mapping, file, cmap);
-    list(d, at, b"\n  cdef:", Item::Definition, file, cdef)
+    lists::columns(false, file, p);
+    lists::entries(false, file, p);
 }
 
 // Item i of a list, whose bytes c begins with.
-pub fn item(d: &mut [u8], at: usize, item: Item, i: usize, c: &[u8]) -> usize {
+pub fn item(item: Item, i: usize, c: &[u8]) {
     match item {
-        Item::Code => code(d, at, jp2_cio::read_u32(c, 0)),
-        Item::Component => depth(d, at, b"\n    component #: # (", i, jp2_cio::read_u8(c, 0)),
-        Item::Column => depth(d, at, b"\n    B #: # (", i, jp2_cio::read_u8(c, 0)),
-        Item::Mapping => mapping(d, at, i, c),
-        Item::Definition => definition(d, at, c),
+        Item::Code => code(jp2_cio::read_u32(c, 0)),
+        Item::Component => depth(b"\n    component #: # (", i, jp2_cio::read_u8(c, 0)),
+        Item::Column => depth(b"\n    B #: # (", i, jp2_cio::read_u8(c, 0)),
+        Item::Mapping => mapping(i, c),
+        Item::Definition => definition(c),
     }
 }
 
-fn depth(d: &mut [u8], at: usize, shape: &[u8], i: usize, b: u8) -> usize {
-    let at = fill(d, at, shape, &[i, b as usize]);
-    let at = words::depth(d, at, b as u32);
-    text(d, at, b")")
+fn depth(shape: &[u8], i: usize, b: u8) {
+    fill(shape, &[i, b as usize]);
+    words::depth(b as u32);
+    text(b")");
 }
 
-fn mapping(d: &mut [u8], at: usize, i: usize, c: &[u8]) -> usize {
+fn mapping(i: usize, c: &[u8]) {
     let cmp = jp2_cio::read_u16(c, 0);
     let mtyp = jp2_cio::read_u8(c, 2);
     let pcol = jp2_cio::read_u8(c, 3);
-    let at = fill(
-        d,
-        at,
+    fill(
         b"\n    channel #: CMP #, MTYP # (",
         &[i, cmp as usize, mtyp as usize],
     );
-    let at = words::mapping(d, at, mtyp);
-    fill(d, at, b"), PCOL #", &[pcol as usize])
+    words::mapping(mtyp);
+    fill(b"), PCOL #", &[pcol as usize]);
 }
 
-fn definition(d: &mut [u8], at: usize, c: &[u8]) -> usize {
+fn definition(c: &[u8]) {
     let cn = jp2_cio::read_u16(c, 0);
     let typ = jp2_cio::read_u16(c, 2);
     let asoc = jp2_cio::read_u16(c, 4);
-    let at = fill(d, at, b"\n    Cn #, Typ # (", &[cn as usize, typ as usize]);
-    let at = words::channel(d, at, typ);
-    let at = fill(d, at, b"), Asoc # (", &[asoc as usize]);
-    let at = words::association(d, at, asoc);
-    text(d, at, b")")
+    fill(b"\n    Cn #, Typ # (", &[cn as usize, typ as usize]);
+    words::channel(typ);
+    fill(b"), Asoc # (", &[asoc as usize]);
+    words::association(asoc);
+    text(b")");
 }

@@ -1,10 +1,7 @@
 // What --help prints.
-use crate::say::text;
-
-pub fn usage(d: &mut [u8], at: usize) -> usize {
-    text(
-        d,
-        at,
+pub fn usage(fd: i32) {
+    io::write_all(
+        fd,
         b"usage: jp2info [--json] FILE..\n\
         \n\
         Prints what the boxes of each JP2 file say, up to the codestream, a field a line.\n\
@@ -19,5 +16,5 @@ pub fn usage(d: &mut [u8], at: usize) -> usize {
         one of these words is given as ./--json.\n\
         \n\
         Control bytes, and bytes that are not UTF-8, are shown as \\x1b, in JSON as \\u001b.\n",
-    )
+    );
 }

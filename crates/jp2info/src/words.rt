@@ -1,17 +1,15 @@
 // What the numbers of a file mean, in words.
 use crate::say::fill;
-use crate::say::line;
+use crate::say::pick;
 use crate::say::text;
 use jp2_record::Colour;
 use jp2_record::FileType;
 use jp2_record::Span;
 
 // Why a file is turned down, from 0: the numbers 1 to 24 of document 01's table.
-pub fn cause(d: &mut [u8], at: usize, number: u32) -> usize {
-    line(
-        d,
-        at,
-        number as usize,
+pub fn cause(number: u32) {
+    pick(
+        number,
         b"\n\
         file over 4294967295 bytes\n\
         codestream without header bit\n\
@@ -37,15 +35,13 @@ pub fn cause(d: &mut [u8], at: usize, number: u32) -> usize {
         cmap short\n\
         cdef under 2 bytes or short\n\
         cdef count 0\n",
-    )
+    );
 }
 
 // EnumCS, from 0: I.5.3.3, and Annex M of ISO/IEC 15444-2.
-pub fn space(d: &mut [u8], at: usize, enumcs: u32) -> usize {
-    line(
-        d,
-        at,
-        enumcs as usize,
+pub fn space(enumcs: u32) {
+    pick(
+        enumcs,
         b"bi-level\n\
         YCbCr(1)\n\
         \n\
@@ -71,54 +67,50 @@ pub fn space(d: &mut [u8], at: usize, enumcs: u32) -> usize {
         YPbCr(1125/60)\n\
         YPbCr(1250/50)\n\
         e-sYCC\n",
-    )
+    );
 }
 
 // METH.
-pub fn method(d: &mut [u8], at: usize, meth: u32) -> usize {
-    line(
-        d,
-        at,
-        meth as usize,
+pub fn method(meth: u32) {
+    pick(
+        meth,
         b"\n\
         enumerated colour space\n\
         ICC profile\n",
-    )
+    );
 }
 
 // The depth and sign of a byte of BPC, BPCC or B.
-pub fn depth(d: &mut [u8], at: usize, b: u32) -> usize {
-    let at = fill(d, at, b"# bits, ", &[b as usize % 128 + 1]);
-    line(d, at, b as usize / 128, b"unsigned\nsigned\n")
+pub fn depth(b: u32) {
+    fill(b"# bits, ", &[b as usize % 128 + 1]);
+    pick(b / 128, b"unsigned\nsigned\n");
 }
 
 // MTYP.
-pub fn mapping(d: &mut [u8], at: usize, mtyp: u8) -> usize {
-    line(d, at, mtyp as usize, b"direct\npalette\n")
+pub fn mapping(mtyp: u8) {
+    pick(mtyp as u32, b"direct\npalette\n");
 }
 
 // Typ.
-pub fn channel(d: &mut [u8], at: usize, typ: u16) -> usize {
+pub fn channel(typ: u16) {
     if typ == 65535 {
-        return text(d, at, b"unspecified");
+        text(b"unspecified");
+        return;
     }
-    line(
-        d,
-        at,
-        typ as usize,
-        b"colour\nopacity\npremultiplied opacity\n",
-    )
+    pick(typ as u32, b"colour\nopacity\npremultiplied opacity\n");
 }
 
 // Asoc.
-pub fn association(d: &mut [u8], at: usize, asoc: u16) -> usize {
+pub fn association(asoc: u16) {
     if asoc == 0 {
-        return text(d, at, b"whole image");
+        text(b"whole image");
+        return;
     }
     if asoc == 65535 {
-        return text(d, at, b"unassociated");
+        text(b"unassociated");
+        return;
     }
-    fill(d, at, b"colour #", &[asoc as usize])
+    fill(b"colour #", &[asoc as usize]);
 }
 
 // Whether the record has nothing of a colr box, or only one of zeros.

@@ -9,10 +9,10 @@ use Rattle.jp2info.proofs.each_word.Statement.{statement}
 use Rattle.jp2info.proofs.each_word.Tie as tie
 
 abbrev Inv-loop : tie.InvT-loop
-Inv-loop d₀ count room₀ state₀ i₀ d room state i = (length d ≡ length d₀) × (length room ≡ length room₀)
+Inv-loop count room₀ json₀ i₀ room json i = length room ≡ length room₀
 
 abbrev μ-loop : tie.MeasureT-loop
-μ-loop d₀ count room₀ state₀ i₀ d room state i = count - i
+μ-loop count room₀ json₀ i₀ room json i = count - i
 
 loop-holds : tie.Need-loop-holds Inv-loop μ-loop
 loop-holds c = omega arith
@@ -32,9 +32,6 @@ loop-again c = omega arith
 same-length : tie.Need-same-length Inv-loop μ-loop
 same-length c = omega arith
 
-same-length-2 : tie.Need-same-length-2 Inv-loop μ-loop
-same-length-2 c = omega arith
-
 returns : tie.Need-returns Inv-loop μ-loop
 returns c = search needs
 
@@ -50,5 +47,4 @@ each-word-spec =
     loop-less
     loop-again
     same-length
-    same-length-2
     returns)

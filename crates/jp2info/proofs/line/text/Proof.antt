@@ -1,12 +1,12 @@
--- `jp2info::say::text` is safe and ends: what is left of the text falls.
+-- `jp2info::line::text` is safe and ends: what is left of the text falls.
 -- Assumes nothing.
 use Prim.Native.Nat.{_-_}
 use native.Mathlib.Omega.{arith}
 use borrow.Author.Needs.{needs}
 use mathlib.Core.Path.{_≡_}
 use lib.ListN.{length}
-use Rattle.jp2info.proofs.say.text.Statement.{statement}
-use Rattle.jp2info.proofs.say.text.Tie as tie
+use Rattle.jp2info.proofs.line.text.Statement.{statement}
+use Rattle.jp2info.proofs.line.text.Tie as tie
 
 abbrev Inv-loop : tie.InvT-loop
 Inv-loop d₀ at s k₀ i₀ d k i = length d ≡ length d₀

@@ -1,12 +1,12 @@
--- `jp2info::quote::name` is safe and ends: what is left of the name falls.
+-- `jp2info::quote::name_in` is safe and ends: what is left of the name falls.
 -- Assumes nothing.
 use Prim.Native.Nat.{_-_}
 use native.Mathlib.Omega.{arith}
 use borrow.Author.Needs.{needs}
 use mathlib.Core.Path.{_≡_}
 use lib.ListN.{length}
-use Rattle.jp2info.proofs.quote.name.Statement.{statement}
-use Rattle.jp2info.proofs.quote.name.Tie as tie
+use Rattle.jp2info.proofs.quote.name_in.Statement.{statement}
+use Rattle.jp2info.proofs.quote.name_in.Tie as tie
 
 abbrev Inv-loop : tie.InvT-loop
 Inv-loop d₀ at json s k₀ i₀ d k i = length d ≡ length d₀
@@ -35,8 +35,8 @@ same-length c = omega arith
 returns : tie.Need-returns Inv-loop μ-loop
 returns c = search needs
 
-pub name-spec : {M : Type 1} → statement M
-name-spec =
+pub name-in-spec : {M : Type 1} → statement M
+name-in-spec =
     tie.close
     (tie.spec
     Inv-loop

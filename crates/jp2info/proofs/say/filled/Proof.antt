@@ -1,18 +1,18 @@
--- `jp2info::say::fill` is safe and ends: what is left of the shape falls.
+-- `jp2info::say::filled` is safe and ends: what is left of the shape falls.
 -- Assumes nothing.
 use Prim.Native.Nat.{_-_, _≤_}
 use native.Mathlib.Omega.{arith}
 use borrow.Author.Needs.{needs}
 use mathlib.Core.Path.{_≡_}
 use lib.ListN.{length}
-use Rattle.jp2info.proofs.say.fill.Statement.{statement}
-use Rattle.jp2info.proofs.say.fill.Tie as tie
+use Rattle.jp2info.proofs.say.filled.Statement.{statement}
+use Rattle.jp2info.proofs.say.filled.Tie as tie
 
 abbrev Inv-loop : tie.InvT-loop
-Inv-loop d₀ at shape numbers k₀ next₀ i₀ d k next i = (length d ≡ length d₀) × (next ≤ i)
+Inv-loop d₀ shape numbers k₀ next₀ i₀ d k next i = (length d ≡ length d₀) × (next ≤ i)
 
 abbrev μ-loop : tie.MeasureT-loop
-μ-loop d₀ at shape numbers k₀ next₀ i₀ d k next i = length shape - i
+μ-loop d₀ shape numbers k₀ next₀ i₀ d k next i = length shape - i
 
 loop-holds : tie.Need-loop-holds Inv-loop μ-loop
 loop-holds c = omega arith
@@ -47,8 +47,8 @@ same-length c = omega arith
 returns : tie.Need-returns Inv-loop μ-loop
 returns c = search needs
 
-pub fill-spec : {M : Type 1} → statement M
-fill-spec =
+pub filled-spec : {M : Type 1} → statement M
+filled-spec =
     tie.close
     (tie.spec
     Inv-loop

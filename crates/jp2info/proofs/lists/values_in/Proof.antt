@@ -1,18 +1,18 @@
--- `jp2info::lists::values` is safe and ends: the columns that are left fall.
+-- `jp2info::lists::values_in` is safe and ends: the columns that are left fall.
 -- Assumes nothing.
 use Prim.Native.Nat.{_-_}
 use native.Mathlib.Omega.{arith}
 use borrow.Author.Needs.{needs}
 use mathlib.Core.Path.{_≡_}
 use lib.ListN.{length}
-use Rattle.jp2info.proofs.lists.values.Statement.{statement}
-use Rattle.jp2info.proofs.lists.values.Tie as tie
+use Rattle.jp2info.proofs.lists.values_in.Statement.{statement}
+use Rattle.jp2info.proofs.lists.values_in.Tie as tie
 
 abbrev Inv-loop : tie.InvT-loop
-Inv-loop d₀ at between depths list k₀ rest₀ i₀ d k rest i = length d ≡ length d₀
+Inv-loop d₀ between depths list k₀ rest₀ i₀ d k rest i = length d ≡ length d₀
 
 abbrev μ-loop : tie.MeasureT-loop
-μ-loop d₀ at between depths list k₀ rest₀ i₀ d k rest i = length depths - i
+μ-loop d₀ between depths list k₀ rest₀ i₀ d k rest i = length depths - i
 
 loop-holds : tie.Need-loop-holds Inv-loop μ-loop
 loop-holds c = omega arith
@@ -26,14 +26,11 @@ entry-bytes-requires c κs = search needs
 front-requires : tie.Need-front-requires Inv-loop μ-loop
 front-requires c κs = search needs
 
-between-requires : tie.Need-between-requires Inv-loop μ-loop
-between-requires c κs = search needs
-
 opj-read-bytes-requires : tie.Need-opj-read-bytes-requires Inv-loop μ-loop
 opj-read-bytes-requires c κs = search needs
 
-decimal-requires : tie.Need-decimal-requires Inv-loop μ-loop
-decimal-requires c κs = search needs
+value-requires : tie.Need-value-requires Inv-loop μ-loop
+value-requires c κs = search needs
 
 sub-rest : tie.Need-sub-rest Inv-loop μ-loop
 sub-rest c = omega arith
@@ -59,8 +56,8 @@ same-length c = omega arith
 returns : tie.Need-returns Inv-loop μ-loop
 returns c = search needs
 
-pub values-spec : {M : Type 1} → statement M
-values-spec =
+pub values-in-spec : {M : Type 1} → statement M
+values-in-spec =
     tie.close
     (tie.spec
     Inv-loop
@@ -69,9 +66,8 @@ values-spec =
     shared-slice-read-entry-bytes
     entry-bytes-requires
     front-requires
-    between-requires
     opj-read-bytes-requires
-    decimal-requires
+    value-requires
     sub-rest
     part-rest-start
     part-rest-end

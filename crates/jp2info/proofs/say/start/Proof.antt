@@ -1,27 +1,20 @@
--- `jp2info::say::line` is safe and ends: what is left of the lines falls.
+-- `jp2info::say::start` is safe and ends: what is left of the lines falls.
 -- Assumes nothing.
 use Prim.Native.Nat.{_-_, _≤_}
 use native.Mathlib.Omega.{arith}
 use borrow.Author.Needs.{needs}
-use mathlib.Core.Path.{_≡_}
 use lib.ListN.{length}
-use Rattle.jp2info.proofs.say.line.Statement.{statement}
-use Rattle.jp2info.proofs.say.line.Tie as tie
+use Rattle.jp2info.proofs.say.start.Statement.{statement}
+use Rattle.jp2info.proofs.say.start.Tie as tie
 
 abbrev Inv-loop : tie.InvT-loop
-Inv-loop d₀ at n lines k₀ passed₀ i₀ d k passed i = (length d ≡ length d₀) × (passed ≤ i)
+Inv-loop lines n passed₀ i₀ passed i = passed ≤ i
 
 abbrev μ-loop : tie.MeasureT-loop
-μ-loop d₀ at n lines k₀ passed₀ i₀ d k passed i = length lines - i
+μ-loop lines n passed₀ i₀ passed i = length lines - i
 
 loop-holds : tie.Need-loop-holds Inv-loop μ-loop
 loop-holds c = omega arith
-
-shared-slice-read-letter-of : tie.Need-shared-slice-read-letter-of Inv-loop μ-loop
-shared-slice-read-letter-of c = omega arith
-
-letter-of-requires : tie.Need-letter-of-requires Inv-loop μ-loop
-letter-of-requires c κs = search needs
 
 shared-slice-read-is : tie.Need-shared-slice-read-is Inv-loop μ-loop
 shared-slice-read-is c = omega arith
@@ -41,30 +34,24 @@ loop-less c = omega arith
 loop-again : tie.Need-loop-again Inv-loop μ-loop
 loop-again c = omega arith
 
-or-unknown-requires : tie.Need-or-unknown-requires Inv-loop μ-loop
-or-unknown-requires c κs = search needs
-
-same-length : tie.Need-same-length Inv-loop μ-loop
-same-length c = omega arith
-
 returns : tie.Need-returns Inv-loop μ-loop
 returns c = search needs
 
-pub line-spec : {M : Type 1} → statement M
-line-spec =
+returns-2 : tie.Need-returns-2 Inv-loop μ-loop
+returns-2 c = search needs
+
+pub start-spec : {M : Type 1} → statement M
+start-spec =
     tie.close
     (tie.spec
     Inv-loop
     μ-loop
     loop-holds
-    shared-slice-read-letter-of
-    letter-of-requires
     shared-slice-read-is
     is-requires
     add-passed
     add-i
     loop-less
     loop-again
-    or-unknown-requires
-    same-length
-    returns)
+    returns
+    returns-2)
