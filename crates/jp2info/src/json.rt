@@ -19,22 +19,29 @@ use jp2_record::Span;
 pub fn reading(name: &[u8], file: &[u8], r: Reading) {
     text(b"{\"file\":\"");
     quote::name(true, name);
-    let answer = r.answer;
-    match answer {
-        FileAnswer::Codestream(offset) => {
-            fill(
-                b"\",\"answer\":\"codestream\",\"codestream\":#",
-                &[offset as usize],
-            );
-            record(file, r.jp2);
-        }
-        FileAnswer::Ended => {
-            text(b"\",\"answer\":\"ended\",\"codestream\":null");
-            record(file, r.jp2);
-        }
-        FileAnswer::Refused(n, place) => refused(n, place),
-    }
+    outcome(file, r);
     say::end(b"}\n");
+}
+
+fn outcome(file: &[u8], r: Reading) {
+    let answer = r.answer;
+    if let FileAnswer::Refused(n, place) = answer {
+        refused(n, place);
+        return;
+    }
+    codestream(answer);
+    record(file, r.jp2);
+}
+
+fn codestream(answer: FileAnswer) {
+    if let FileAnswer::Codestream(offset) = answer {
+        fill(
+            b"\",\"answer\":\"codestream\",\"codestream\":#",
+            &[offset as usize],
+        );
+        return;
+    }
+    text(b"\",\"answer\":\"ended\",\"codestream\":null");
 }
 
 fn refused(n: u32, place: u32) {

@@ -18,19 +18,26 @@ use jp2_record::Span;
 
 pub fn reading(name: &[u8], file: &[u8], r: Reading) {
     quote::name(false, name);
-    let answer = r.answer;
-    match answer {
-        FileAnswer::Codestream(offset) => {
-            record(file, r.jp2);
-            fill(b"\n  codestream: at #", &[offset as usize]);
-        }
-        FileAnswer::Ended => {
-            record(file, r.jp2);
-            text(b"\n  codestream: none, ended");
-        }
-        FileAnswer::Refused(n, place) => refused(n, place),
-    }
+    outcome(file, r);
     say::end(b"\n");
+}
+
+fn outcome(file: &[u8], r: Reading) {
+    let answer = r.answer;
+    if let FileAnswer::Refused(n, place) = answer {
+        refused(n, place);
+        return;
+    }
+    record(file, r.jp2);
+    codestream(answer);
+}
+
+fn codestream(answer: FileAnswer) {
+    if let FileAnswer::Codestream(offset) = answer {
+        fill(b"\n  codestream: at #", &[offset as usize]);
+        return;
+    }
+    text(b"\n  codestream: none, ended");
 }
 
 fn refused(n: u32, place: u32) {
