@@ -10,10 +10,11 @@ use Rattle.jp2_cio.proofs.Rows.{Says}
 use Rattle.jp2_record.specs.Record.{blank}
 use Rattle.jp2_file.specs.File.{Walked, codestream, ended, turnedDown, read, reading}
 use Rattle.jp2_reading.proofs.Definitions.{numbers-within}
+use Rattle.jp2_reading.proofs.Sounds.{record-sound}
 use Rattle.jp2_picture.specs.Words.{Handed}
 use Rattle.jp2_whole.specs.Whole.{pictured}
 use Rattle.jp2_export.specs.Numbers.{numbers}
-use Rattle.jp2_export.specs.Again.{noReading, again, Fits, TwoSteps}
+use Rattle.jp2_export.specs.Again.{noReading, again, Fits, TwoSteps, FitsMet}
 use Rattle.jp2_export.proofs.Agains.{refused, on}
 use Rattle.jp2_export.proofs.Lents.{finish-same}
 
@@ -29,3 +30,14 @@ two-steps h = go (read (h .file)) refl
     go (turnedDown number place) e fits =
         let w = numbers-within (h .file) number place e in
         rw e (refused h _ (omega arith, (omega arith, ((λ two. ((λ z. omega (arith, w .0)), w .1)), (omega arith, omega arith)))) refl)
+
+pub fits-met : FitsMet
+fits-met =
+    record {
+      none = record { entries = omega arith; columns = omega arith };
+      palette = λ f m bytes e some.
+          let p = (record-sound f m bytes e) .palette some in
+          let u = p .most in
+          let v = p .columns in
+          record { entries = omega arith; columns = omega arith };
+    }

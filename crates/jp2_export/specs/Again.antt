@@ -1,13 +1,14 @@
 -- Finishing a picture with a reading of its file that is handed in as numbers.
-use Prim.Native.Nat.{ℕ, _≤_}
+use Prim.Native.Nat.{ℕ, _≤_, _<_}
 use mathlib.Core.Path.{_≡_}
 use mathlib.Core.List.{List}
 use lib.ListN.{length, getD}
 use Rattle.jp2_cio.specs.Table.{Test, _=?_, _<?_, _or_, _and_, Rows, otherwise, _⇒_∣_, table}
 use Rattle.jp2_record.specs.declared.Jp2.{Jp2}
 use Rattle.jp2_record.specs.Record.{blank, span, palette, withPclr, withCmap, withCdef}
-use Rattle.jp2_file.specs.declared.Reading.{Reading}
+use Rattle.jp2_record.specs.Answer.{accepted}
 use Rattle.jp2_file.specs.File.{read, reading}
+use Rattle.jp2_reading.specs.Alike.{given}
 use Rattle.jp2_picture.specs.Words.{Handed}
 use Rattle.jp2_picture.specs.Finish.{Finishing, declined, finish}
 use Rattle.jp2_whole.specs.Whole.{pictured}
@@ -32,7 +33,7 @@ pub record Taken (xs : List ℕ) : Type 0 where
   pub entries : getD xs 34 0 ≤ 4294967295
   pub columns : getD xs 35 0 ≤ 4294967295
 
--- the record, as far as finishing looks at it: the palette, the mappings and the definitions
+-- the record, as far as finishing looks at it: the palette, the mappings and the definitions, at the places that `ofLists` in Numbers.antt gives them; `TwoSteps` holds the places to it
 abbrev pub lent : List ℕ → Jp2
 lent xs =
     withPclr (palette (getD xs 33 0) (getD xs 34 0) (getD xs 35 0))
@@ -54,3 +55,8 @@ pub record Fits (m : Jp2) : Type 0 where
 -- reading and then finishing comes to the same as both in one step
 abbrev pub TwoSteps : Type 0
 TwoSteps = (h : Handed) → Fits ((reading blank (read (h .file))) .jp2) → again h (numbers (reading blank (read (h .file)))) ≡ pictured h
+
+-- its premise is met: by the record before any box, and by that of every file of bytes that has a palette
+pub record FitsMet : Type 0 where
+  pub none : Fits blank
+  pub palette : (f : List ℕ) (m : Jp2) → ((i : ℕ) → getD f i 0 < 256) → given (read f) ≡ accepted m → (m .lists .pclr .columns ≡ 0 → ⊥) → Fits m
