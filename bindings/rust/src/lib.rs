@@ -45,6 +45,7 @@
 #![deny(unsafe_op_in_unsafe_fn)]
 
 mod cause;
+mod exports;
 mod header;
 mod lists;
 mod picture;

@@ -1,70 +1,7 @@
-//! The four entries of the library, over slices. All that is unsafe is in this file; tests/names.rs compares the declarations
-//! with the C header's.
+//! The four entries of the library, over slices. All that is unsafe is in this file.
 
+use crate::exports::{cuzhantir_finish, cuzhantir_picture, cuzhantir_read, cuzhantir_write};
 use crate::{Refused, READING_LENGTH};
-
-extern "C" {
-    fn cuzhantir_read(
-        file: *const u8,
-        file_len: usize,
-        reading: *mut u64,
-        reading_len: usize,
-    ) -> u32;
-
-    fn cuzhantir_finish(
-        file: *const u8,
-        file_len: usize,
-        reading: *const u64,
-        reading_len: usize,
-        ignore: u32,
-        comps: *const u32,
-        comps_len: usize,
-        count: u32,
-        samples: *const i32,
-        samples_len: usize,
-        records: *mut u32,
-        records_len: usize,
-        planes: *mut i32,
-        planes_len: usize,
-        answer: *mut u64,
-        answer_len: usize,
-    ) -> u32;
-
-    fn cuzhantir_picture(
-        file: *const u8,
-        file_len: usize,
-        ignore: u32,
-        comps: *const u32,
-        comps_len: usize,
-        count: u32,
-        samples: *const i32,
-        samples_len: usize,
-        records: *mut u32,
-        records_len: usize,
-        planes: *mut i32,
-        planes_len: usize,
-        answer: *mut u64,
-        answer_len: usize,
-    ) -> u32;
-
-    fn cuzhantir_write(
-        comps: *const u32,
-        comps_len: usize,
-        count: u32,
-        x0: u32,
-        y0: u32,
-        x1: u32,
-        y1: u32,
-        space: u32,
-        profile: *const u8,
-        profile_len: usize,
-        codestream: u64,
-        d: *mut u8,
-        d_len: usize,
-        answer: *mut u64,
-        answer_len: usize,
-    ) -> u32;
-}
 
 /// Where the parts of a reading that tell of a refusal stand.
 const READING_PLACE: usize = 2;

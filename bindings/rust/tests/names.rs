@@ -3,7 +3,7 @@
 use cuzhantir_jp2::{Cause, COMPONENT_LENGTH, NO_SAMPLES, READING_LENGTH};
 
 const HEADER: &str = include_str!("../../../include/cuzhantir_jp2.h");
-const RAW: &str = include_str!("../src/raw.rs");
+const EXPORTS: &str = include_str!("../src/exports.rs");
 const READING: &str = include_str!("../src/header.rs");
 
 /// `FileTooLong` as C writes it.
@@ -129,7 +129,7 @@ fn entries_are_declared_as_in_the_header() {
     for entry in ["read", "finish", "picture", "write"] {
         let c = parameters(HEADER, &format!("\nuint32_t cuzhantir_{entry}("), ");");
         let expected: Vec<String> = c.iter().map(|parameter| in_rust(parameter)).collect();
-        let here = parameters(RAW, &format!("fn cuzhantir_{entry}("), ") -> u32;");
+        let here = parameters(EXPORTS, &format!("fn cuzhantir_{entry}("), ") -> u32;");
         assert_eq!(here, expected, "cuzhantir_{entry}");
     }
 }

@@ -3,45 +3,13 @@
 use oracle::FinishingRequest;
 
 #[link(name = "jp2_export", kind = "static")]
-unsafe extern "C" {
-    fn cuzhantir_read(file: *const u8, file_len: usize, out: *mut u64, out_len: usize) -> u32;
+unsafe extern "C" {}
 
-    fn cuzhantir_finish(
-        file: *const u8,
-        file_len: usize,
-        reading: *const u64,
-        reading_len: usize,
-        ignore: u32,
-        comps: *const u32,
-        comps_len: usize,
-        count: u32,
-        samples: *const i32,
-        samples_len: usize,
-        records: *mut u32,
-        records_len: usize,
-        planes: *mut i32,
-        planes_len: usize,
-        answer: *mut u64,
-        answer_len: usize,
-    ) -> u32;
+#[allow(dead_code)]
+#[path = "../../../bindings/rust/src/exports.rs"]
+mod exports;
 
-    fn cuzhantir_picture(
-        file: *const u8,
-        file_len: usize,
-        ignore: u32,
-        comps: *const u32,
-        comps_len: usize,
-        count: u32,
-        samples: *const i32,
-        samples_len: usize,
-        records: *mut u32,
-        records_len: usize,
-        planes: *mut i32,
-        planes_len: usize,
-        answer: *mut u64,
-        answer_len: usize,
-    ) -> u32;
-}
+use exports::{cuzhantir_finish, cuzhantir_picture, cuzhantir_read};
 
 /// Reads a file and writes the numbers of the answer, in the order of `oracle::numbers`. Answers the number of a refusal,
 /// else 0; and 30 where `out` is too short for the numbers.

@@ -1,25 +1,13 @@
 //! The port's writing, for lists. The comparison and the program behind `oracle/outside` both include this file.
 
 #[link(name = "jp2_export", kind = "static")]
-unsafe extern "C" {
-    fn cuzhantir_write(
-        comps: *const u32,
-        comps_len: usize,
-        count: u32,
-        x0: u32,
-        y0: u32,
-        x1: u32,
-        y1: u32,
-        space: u32,
-        profile: *const u8,
-        profile_len: usize,
-        codestream: u64,
-        d: *mut u8,
-        d_len: usize,
-        answer: *mut u64,
-        answer_len: usize,
-    ) -> u32;
-}
+unsafe extern "C" {}
+
+#[allow(dead_code)]
+#[path = "../../../bindings/rust/src/exports.rs"]
+mod exports;
+
+use exports::cuzhantir_write;
 
 /// What is handed in, apart from the lists that are written to.
 pub struct Request<'a> {
