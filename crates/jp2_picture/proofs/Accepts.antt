@@ -18,8 +18,8 @@ use Rattle.jp2_picture.specs.OrderFreedom.{withFile}
 use Rattle.jp2_picture.proofs.Indices.{lowest-most, lowest-none, none-lowest}
 use Rattle.jp2_picture.proofs.Checks.{Checked, Passed}
 use Rattle.jp2_picture.proofs.Listed.{elsewhere}
-use Rattle.jp2_picture.proofs.Mappings.{Kept, kept}
-use Rattle.jp2_picture.proofs.Agrees.{Agree, agree-counted, kept-counted, outside-same, start-same}
+use Rattle.jp2_picture.proofs.Mappings.{Kept, kept, kept-counted}
+use Rattle.jp2_picture.proofs.Agrees.{Agree, agree-counted, outside-same, start-same}
 
 module _ {f g : List ℕ} {m : Jp2} (a : Agree f g m) where
   -- 25: no definition is misnamed where none is in the other file

@@ -44,10 +44,6 @@ agree-counted {f} {g} ignore a =
           },
     )
 
-pub kept-counted : {m : Jp2} (ignore : ℕ) → Kept m → Kept (counted ignore m)
-unfolding counted
-kept-counted ignore k = each Kept _ ((λ _. k), λ _. record { columns = λ h. absurd (h refl); entries = λ h. absurd (h refl) })
-
 lowest-same : (t s : ℕ → Test) (n : ℕ) → ((i : ℕ) → i < n → t i ≡ s i) → lowest t n ≡ lowest s n
 unfolding lowest
 lowest-same t s zero e = refl

@@ -1,19 +1,25 @@
--- Demand 3: the picture rule and order freedom.
+-- Demand 3: the picture rule and order freedom; and what holds of every picture.
 -- Assumes nothing.
 use mathlib.Core.Path.{ap₂, subst}
-use mathlib.Core.List.{[], append-nil}
+use mathlib.Core.List.{[], _++_, append-nil}
 use Rattle.jp2_order.proofs.Rules.{order-pairs, order-free}
-use Rattle.jp2_picture.specs.Image.{image}
+use Rattle.jp2_picture.specs.Image.{Image, image}
+use Rattle.jp2_picture.specs.Finish.{counted}
 use Rattle.jp2_picture.specs.PictureRule.{RightPlanes, PictureRule}
+use Rattle.jp2_picture.specs.EveryPicture.{EveryPlane, EveryPicture}
 use Rattle.jp2_picture.specs.OrderFreedom.{OrderFreedom}
-use Rattle.jp2_picture.proofs.Destinations.{right-in-place}
+use Rattle.jp2_picture.proofs.Destinations.{right-in-place, every-in-place}
 use Rattle.jp2_picture.proofs.Orders.{order-freedom-from}
 
--- with nothing behind the picture
+-- what holds of a picture with nothing behind it holds of the picture
+alone : (P : Image → Type 0) (planes : Image) → P (image (planes .components ++ []) (planes .count) (planes .samples ++ [])) → P planes
+alone P planes = subst P (ap₂ (λ c s. image c (planes .count) s) (append-nil (planes .components)) (append-nil (planes .samples)))
+
 pub picture-rule : PictureRule
-picture-rule h m planes accepted defined clear =
-    subst (RightPlanes h m) (ap₂ (λ c s. image c (planes .count) s) (append-nil (planes .components)) (append-nil (planes .samples)))
-    (right-in-place h m planes accepted defined clear [] [])
+picture-rule h m planes accepted defined clear = alone (RightPlanes h m) planes (right-in-place h m planes accepted defined clear [] [])
+
+pub every-picture : EveryPicture
+every-picture h m planes accepted = alone (EveryPlane h (counted (h .ignore) m)) planes (every-in-place h m planes accepted [] [])
 
 pub order-freedom : OrderFreedom
 order-freedom = order-freedom-from order-free

@@ -1,4 +1,4 @@
--- The picture rule of the destinations: it holds of them whatever stands in them behind the picture.
+-- The picture rule of the destinations, and what holds of every picture: both hold of them whatever stands in them behind the picture.
 -- Assumes nothing.
 use Prim.Native.Nat.{ℕ}
 use mathlib.Core.Path.{sym, subst}
@@ -7,11 +7,13 @@ use lib.IntN.{ℤ}
 use Rattle.jp2_record.specs.declared.Jp2.{Jp2}
 use Rattle.jp2_order.proofs.Rules.{order-pairs, colour-lands}
 use Rattle.jp2_picture.specs.Image.{Image, image}
+use Rattle.jp2_picture.specs.Finish.{counted}
 use Rattle.jp2_picture.specs.Words.{Handed, Accepted, Defined, Clear}
 use Rattle.jp2_picture.specs.PictureRule.{RightPlanes}
-use Rattle.jp2_picture.proofs.Checks.{applied}
-use Rattle.jp2_picture.proofs.Mappings.{kept}
-use Rattle.jp2_picture.proofs.Pictures.{right}
+use Rattle.jp2_picture.specs.EveryPicture.{EveryPlane}
+use Rattle.jp2_picture.proofs.Checks.{passed, applied}
+use Rattle.jp2_picture.proofs.Mappings.{kept, kept-counted}
+use Rattle.jp2_picture.proofs.Pictures.{right, every}
 
 pub right-in-place :
     (h : Handed) (m : Jp2) (planes : Image) → Accepted h m planes → Defined h m → Clear h m →
@@ -20,3 +22,11 @@ right-in-place h m planes accepted defined clear d e =
     let y = applied h m planes (defined .applied) (accepted .finishing) in
     subst (λ made. RightPlanes h m (image (made .components ++ d) (made .count) (made .samples ++ e))) (sym (y .is-made))
     (right h m d e order-pairs (y .checked) (y .lists) (kept (h .file) m (y .file)) colour-lands clear)
+
+pub every-in-place :
+    (h : Handed) (m : Jp2) (planes : Image) → Accepted h m planes →
+    (d : List ℕ) (e : List ℤ) → EveryPlane h (counted (h .ignore) m) (image (planes .components ++ d) (planes .count) (planes .samples ++ e))
+every-in-place h m planes accepted d e =
+    let y = passed h m planes (accepted .finishing) in
+    subst (λ made. EveryPlane h (counted (h .ignore) m) (image (made .components ++ d) (made .count) (made .samples ++ e))) (sym (y .1))
+    (every h (counted (h .ignore) m) d e order-pairs (y .0 .checked) (y .0 .lists) (kept-counted (h .ignore) (kept (h .file) m (y .0 .file))))

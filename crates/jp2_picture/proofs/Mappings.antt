@@ -11,7 +11,7 @@ use Rattle.jp2_palette.specs.Cmap.{CMP}
 use Rattle.jp2_picture.specs.Image.{Image}
 use Rattle.jp2_picture.specs.Channels.{mapped, channels, componentOf, typeOf}
 use Rattle.jp2_picture.specs.Check.{mismapped}
-use Rattle.jp2_picture.specs.Finish.{outsideLists, outsideFile}
+use Rattle.jp2_picture.specs.Finish.{outsideLists, outsideFile, counted}
 use Rattle.jp2_picture.specs.Words.{Handed}
 use Rattle.jp2_picture.proofs.Indices.{lowest-none}
 use Rattle.jp2_picture.proofs.Packs.{Within}
@@ -28,6 +28,11 @@ kept f m inside =
       columns = λ h. inside .1 .0 h .0;
       entries = λ h. let e = inside .1 .0 h .0 in omega (arith, inside .0 (λ z. h (omega arith)) .0);
     }
+
+-- also where the ignore flag leaves nothing of the lists
+pub kept-counted : {m : Jp2} (ignore : ℕ) → Kept m → Kept (counted ignore m)
+unfolding counted
+kept-counted ignore k = each Kept _ ((λ _. k), λ _. record { columns = λ h. absurd (h refl); entries = λ h. absurd (h refl) })
 
 -- there are at most 16384 channels
 pub channels-few : (f : List ℕ) (m : Jp2) (i : Image) → Says false (outsideLists i) → Says false (outsideFile f m) → channels m (i .count) ≤ 16384

@@ -11,8 +11,8 @@ use lib.ListN.{getD, List·getD-append}
 use Rattle.jp2_cio.specs.Table.{_=?_}
 use Rattle.jp2_cio.proofs.Rows.{Says, row}
 use Rattle.jp2_record.specs.declared.Jp2.{Jp2}
-use Rattle.jp2_order.specs.Definitions.{Def, Colour, definition, definitions}
-use Rattle.jp2_order.specs.Order.{arranged}
+use Rattle.jp2_order.specs.Definitions.{Def, Colour, definition, definitionsTo, definitions}
+use Rattle.jp2_order.specs.Order.{run, arranged}
 use Rattle.jp2_order.specs.Flat.{flat}
 use Rattle.jp2_order.specs.Rules.{Paired, OrderPairs, ColourLands}
 use Rattle.jp2_picture.specs.Image.{Image, image, component, width, height, first, none, indexOf, sampleAt}
@@ -20,7 +20,8 @@ use Rattle.jp2_picture.specs.Channels.{channels, componentOf}
 use Rattle.jp2_picture.specs.Samples.{valueOf, packed, startOf}
 use Rattle.jp2_picture.specs.Finish.{outsideLists, expanded, picture}
 use Rattle.jp2_picture.specs.Words.{Handed, Clear, Fills}
-use Rattle.jp2_picture.specs.PictureRule.{RightPlanes}
+use Rattle.jp2_picture.specs.PictureRule.{FilledPlanes, RightPlanes}
+use Rattle.jp2_picture.specs.EveryPicture.{EveryPlane}
 use Rattle.jp2_picture.proofs.Indices.{decide}
 use Rattle.jp2_order.proofs.Flats.{flat-length, flat-at}
 use Rattle.jp2_picture.proofs.Packs.{start-more, packed-at}
@@ -114,6 +115,11 @@ module _ (h : Handed) (m : Jp2) (numbers : List ℕ) (samples : List ℤ) (pairs
             sample = λ some y x a b. sample some y x (omega (arith, high)) (omega (arith, wide));
           }
 
+    -- no definition moves a channel
+    in-order : m .lists .cdef .count ≡ 0 → (c : ℕ) → c < n → to c ≡ c
+    unfolding definitionsTo run
+    in-order e c l = sym (paired .seats c l) ∙ ap (λ count. arranged n (definitionsTo f (m .lists .cdef) count) (expanded f m i) .seat c) e
+
     colours :
         ColourLands → Clear h m → (j : ℕ) → j < m .lists .cdef .count → Colour (definition f (m .lists .cdef) j) →
         to (definition f (m .lists .cdef) j .channel) ≡ definition f (m .lists .cdef) j .asoc - 1
@@ -123,12 +129,14 @@ module _ (h : Handed) (m : Jp2) (numbers : List ℕ) (samples : List ℤ) (pairs
         let within : d .asoc ≤ n = checked .named j l .1 (λ z. omega arith) (λ z. omega arith) in
         sym (paired .seats (d .channel) below) ∙ lands n ds (expanded f m i) clear d (occurs f (m .lists .cdef) (m .lists .cdef .count) j l) colour below within
 
+    abbrev filled : FilledPlanes h m planes
+    unfolding picture
+    filled = record { all-planes = refl; pairing = paired .pairing; fills = fills }
+
     pub right : ColourLands → Clear h m → RightPlanes h m planes
     unfolding picture
-    right lands clear =
-        record {
-          all-planes = refl;
-          pairing = paired .pairing;
-          fills = fills;
-          colours = colours lands clear;
-        }
+    right lands clear = record { filled = filled; colours = colours lands clear }
+
+    pub every : EveryPlane h m planes
+    unfolding picture
+    every = record { filled = filled; in-order = in-order }

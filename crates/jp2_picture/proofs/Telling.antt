@@ -1,15 +1,20 @@
--- What the picture rule tells at a point: the rule is of no use to a reader if it speaks of no row or no column.
+-- What the rules of demand 3 tell of a point and of a record: a rule is of no use to a reader if it speaks of no row, no column or no record.
 -- Assumes nothing.
 use Prim.Native.Nat.{ℕ, _<_}
 use mathlib.Core.Path.{_≡_}
 use Rattle.jp2_record.specs.declared.Jp2.{Jp2}
-use Rattle.jp2_picture.specs.Image.{Image, width, height, sampleAt}
+use Rattle.jp2_picture.specs.Image.{Image, component, width, height, sampleAt}
 use Rattle.jp2_picture.specs.Words.{Handed, Empty, channelSample}
-use Rattle.jp2_picture.specs.PictureRule.{RightPlanes}
+use Rattle.jp2_picture.specs.PictureRule.{FilledPlanes}
+use Rattle.jp2_picture.specs.OrderFreedom.{SamePlanes}
 
 -- at every point of channel c's plane stands the channel's sample
 pub tells-sample :
-    (h : Handed) (m : Jp2) (planes : Image) (right : RightPlanes h m planes) (c : ℕ) → c < planes .count → (Empty h m c → ⊥) →
-    let p = right .pairing .to c in
+    (h : Handed) (m : Jp2) (planes : Image) (filled : FilledPlanes h m planes) (c : ℕ) → c < planes .count → (Empty h m c → ⊥) →
+    let p = filled .pairing .to c in
     (y x : ℕ) → y < height planes p → x < width planes p → sampleAt planes p y x ≡ channelSample h m c y x
-tells-sample h m planes right c l some y x a b = right .fills c l .sample some y x a b
+tells-sample h m planes filled c l some y x a b = filled .fills c l .sample some y x a b
+
+-- every record of the same planes is the same, its mark aside
+pub tells-record : (planes others : Image) → SamePlanes planes others → (p k : ℕ) → p < planes .count → k < 12 → component others p k ≡ component planes p k
+tells-record planes others same p k l b = same .records p k l b

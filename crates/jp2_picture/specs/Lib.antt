@@ -6,6 +6,7 @@ pub mod Finish
 pub mod Refusals
 pub mod Words
 pub mod PictureRule
+pub mod EveryPicture
 pub mod OrderFreedom
 pub mod Cases
 pub mod Met

@@ -8,14 +8,18 @@ use Rattle.jp2_picture.specs.Image.{Image}
 use Rattle.jp2_picture.specs.Channels.{channels}
 use Rattle.jp2_picture.specs.Words.{Handed, Accepted, Defined, Clear, Fills}
 
--- one pairing of the channels with the planes serves the whole picture: each channel fills its plane, and the channel defined as colour k fills plane k - 1
-pub record RightPlanes (h : Handed) (m : Jp2) (planes : Image) : Type 0 where
+-- one pairing of the channels with the planes serves the whole picture: each channel fills its plane
+pub record FilledPlanes (h : Handed) (m : Jp2) (planes : Image) : Type 0 where
   pub all-planes : planes .count ≡ channels m (h .image .count)
   pub pairing : Pairing (planes .count)
   pub fills : (c : ℕ) → c < planes .count → Fills h m planes c (pairing .to c)
+
+-- and in this pairing the channel defined as colour k fills plane k - 1
+pub record RightPlanes (h : Handed) (m : Jp2) (planes : Image) : Type 0 where
+  pub filled : FilledPlanes h m planes
   pub colours :
       (j : ℕ) → j < m .lists .cdef .count → Colour (definition (h .file) (m .lists .cdef) j) →
-      pairing .to (definition (h .file) (m .lists .cdef) j .channel) ≡ definition (h .file) (m .lists .cdef) j .asoc - 1
+      filled .pairing .to (definition (h .file) (m .lists .cdef) j .channel) ≡ definition (h .file) (m .lists .cdef) j .asoc - 1
 
 abbrev pub PictureRule : Type 0
 PictureRule = (h : Handed) (m : Jp2) (planes : Image) → Accepted h m planes → Defined h m → Clear h m → RightPlanes h m planes

@@ -19,13 +19,13 @@ use Rattle.jp2_reading.specs.Alike.{given}
 use Rattle.jp2_picture.specs.Image.{Image}
 use Rattle.jp2_picture.specs.Finish.{Finishing, finished, declined, finish}
 use Rattle.jp2_picture.specs.Words.{Handed, Accepted}
-use Rattle.jp2_picture.proofs.Destinations.{right-in-place}
+use Rattle.jp2_picture.proofs.Destinations.{right-in-place, every-in-place}
 use Rattle.jp2_finish.specs.declared.Finished.{Finished}
 use Rattle.jp2_finish.specs.declared.Finished.the-variants.{Planes, Refused}
 use Rattle.jp2_finish.specs.Answers.{answered, recordsAfter, samplesAfter}
 use Rattle.jp2_picture.specs.Met.{Met, direct, directPlanes, paletted, palettedPlanes}
 use Rattle.jp2_picture.proofs.Mets.{direct-met, palette-met}
-use Rattle.jp2_whole.specs.Whole.{thenFinish, pictured, PictureRight, Speaks}
+use Rattle.jp2_whole.specs.Whole.{thenFinish, pictured, PictureRight, PictureFilled, Speaks}
 
 -- the cases of an answer that refuse nothing: codestream and ended
 abbrev pub reads : List ℕ
@@ -62,21 +62,34 @@ module _ (h : Handed) where
       rw (q, u, v) (right-in-place h m p (record { reading = accepts; finishing = f }) defined clear (drop (length (p .components)) records) (drop (length (p .samples)) planes))
   right (declined number place) records planes is a u v m n accepts e defined clear = let z : _≡_ {A = ℕ} 0 1 = cc in absurd (omega arith)
 
-  -- all four clauses at once
+  -- and what of it needs no premise
+  pub every : (x : Finishing) {r : Finished} (records : List ℕ) (planes : List ℤ) {records′ : List ℕ} {planes′ : List ℤ} → pictured h ≡ x → r ≡ answered x → records′ ≡ recordsAfter x records → planes′ ≡ samplesAfter x planes → PictureFilled h r records′ planes′
+  unfolding answered recordsAfter samplesAfter pictured
+  every (finished p) records planes is a u v m n accepts e =
+      let q : n ≡ p .count = cc in
+      let f : finish (h .file) m (h .ignore) (h .image) (h .records) (h .samples) ≡ finished p = rw accepts at is in
+      rw (q, u, v) (every-in-place h m p (record { reading = accepts; finishing = f }) (drop (length (p .components)) records) (drop (length (p .samples)) planes))
+  every (declined number place) records planes is a u v m n accepts e = let z : _≡_ {A = ℕ} 0 1 = cc in absurd (omega arith)
+
+  -- all five clauses at once
   abbrev Shown : Finished → List ℕ → List ℕ → List ℤ → List ℤ → Type 0
-  Shown r records records′ planes planes′ = (r ≡ answered (pictured h)) × ((records′ ≡ recordsAfter (pictured h) records) × ((planes′ ≡ samplesAfter (pictured h) planes) × PictureRight h r records′ planes′))
+  Shown r records records′ planes planes′ = (r ≡ answered (pictured h)) × ((records′ ≡ recordsAfter (pictured h) records) × ((planes′ ≡ samplesAfter (pictured h) planes) × (PictureRight h r records′ planes′ × PictureFilled h r records′ planes′)))
 
   pub shows : (x : Finishing) {r : Finished} (records : List ℕ) (planes : List ℤ) {records′ : List ℕ} {planes′ : List ℤ} → pictured h ≡ x → r ≡ answered x → records′ ≡ recordsAfter x records → planes′ ≡ samplesAfter x planes →
       Shown r records records′ planes planes′
-  shows x records planes is a u v = (rw is a, (rw is u, (rw is v, right x records planes is a u v)))
+  shows x records planes is a u v = (rw is a, (rw is u, (rw is v, (right x records planes is a u v, every x records planes is a u v))))
 
   pub shows-refused : {number place : ℕ} (records : List ℕ) (planes : List ℤ) → pictured h ≡ declined number place → Shown (Refused number place) records records planes planes
   unfolding answered recordsAfter samplesAfter
   shows-refused {number} {place} records planes is = shows (declined number place) records planes is refl refl refl
 
--- the rule in the promise is not an empty one: with a palette and without, its premises are met
+-- the rules in the promise are not empty ones: with a palette and without, their premises are met
 speaks : (h : Handed) (planes : Image) (other : List ℕ) → Met h planes other → Speaks h planes
-speaks h planes other met rule = (met .kept, rule (met .kept) (planes .count) (met .accepted .reading) refl (met .defined) (met .clear))
+speaks h planes other met =
+    record {
+      right = λ rule. (met .kept, rule (met .kept) (planes .count) (met .accepted .reading) refl (met .defined) (met .clear));
+      filled = λ rule. (met .kept, rule (met .kept) (planes .count) (met .accepted .reading) refl);
+    }
 
 pub speaks-direct : Speaks direct directPlanes
 speaks-direct = speaks direct directPlanes _ direct-met

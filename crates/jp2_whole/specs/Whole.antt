@@ -9,9 +9,10 @@ use Rattle.jp2_record.specs.Answer.{Result, accepted, refused}
 use Rattle.jp2_file.specs.File.{read}
 use Rattle.jp2_reading.specs.Alike.{given}
 use Rattle.jp2_picture.specs.Image.{Image, image}
-use Rattle.jp2_picture.specs.Finish.{Finishing, declined, finish}
+use Rattle.jp2_picture.specs.Finish.{Finishing, declined, counted, finish}
 use Rattle.jp2_picture.specs.Words.{Handed, Defined, Clear}
 use Rattle.jp2_picture.specs.PictureRule.{RightPlanes}
+use Rattle.jp2_picture.specs.EveryPicture.{EveryPlane}
 use Rattle.jp2_finish.specs.declared.Finished.{Finished}
 use Rattle.jp2_finish.specs.declared.Finished.the-variants.{Planes}
 
@@ -33,6 +34,12 @@ abbrev pub PictureRight : Handed → Finished → List ℕ → List ℤ → Type
 PictureRight h answer records planes =
     (m : Jp2) (n : ℕ) → given (read (h .file)) ≡ accepted m → answer ≡ Planes n → Defined h m → Clear h m → RightPlanes h m (image records n planes)
 
--- it says something: of these planes for what is handed in, it tells that they are right
-abbrev pub Speaks : Handed → Image → Type 0
-Speaks h planes = PictureRight h (Planes (planes .count)) (planes .components) (planes .samples) → (m : Jp2) × RightPlanes h m planes
+-- and with no premise on the definitions: each channel fills a plane of its own and, where nothing defines the channels, channel c plane c
+abbrev pub PictureFilled : Handed → Finished → List ℕ → List ℤ → Type 0
+PictureFilled h answer records planes =
+    (m : Jp2) (n : ℕ) → given (read (h .file)) ≡ accepted m → answer ≡ Planes n → EveryPlane h (counted (h .ignore) m) (image records n planes)
+
+-- both say something: of these planes for what is handed in, they tell that they are right, and filled
+pub record Speaks (h : Handed) (planes : Image) : Type 0 where
+  pub right : PictureRight h (Planes (planes .count)) (planes .components) (planes .samples) → (m : Jp2) × RightPlanes h m planes
+  pub filled : PictureFilled h (Planes (planes .count)) (planes .components) (planes .samples) → (m : Jp2) × EveryPlane h (counted (h .ignore) m) planes

@@ -8,3 +8,4 @@ pub mod Places
 pub mod Whole
 pub mod Back
 pub mod Refusals
+pub mod Telling
