@@ -13,7 +13,7 @@ use Rattle.jp2_picture.specs.Check.{misnamed, undefined, mismapped}
 use Rattle.jp2_picture.specs.Finish.{outsideFile}
 use Rattle.jp2_check.specs.declared.Checked.the-variants.{Passed, Refused}
 use Rattle.jp2_check.specs.Checked.{checked}
-use Rattle.jp2_check.specs.Parts.{Inside, misnamedAt, undefinedAt, Named}
+use Rattle.jp2_check.specs.Parts.{Inside, Named}
 use Rattle.jp2_comps.proofs.Answers.{said}
 use Rattle.jp2_picture.proofs.Indices.{lowest-past}
 
@@ -45,12 +45,12 @@ module _ (f : List ℕ) (m : Jp2) {z : Bool} (out : z ≡ holds (outsideFile f m
       each (λ (x : ℕ). x ≤ 16384) _ ((λ p. let b : 0 < m .lists .cmap .count = omega arith in let e = mappings-columns b in omega (arith, mappings-few b)), λ p. omega arith)
 
   -- where no definition is misnamed
-  pub all-named : (n : ℕ) {k w : ℕ} → n ≤ 16384 → k ≡ channels m n → w ≡ lowest (misnamedAt f (m .lists .cdef) k) (m .lists .cdef .count) → m .lists .cdef .count ≤ w
+  pub all-named : (n : ℕ) {k w : ℕ} → n ≤ 16384 → k ≡ channels m n → w ≡ lowest (misnamed f (m .lists .cdef) k) (m .lists .cdef .count) → m .lists .cdef .count ≤ w
       → Named f (m .lists .cdef) k
   all-named n {k} {w} h e d b =
       record {
         inside = definitions-inside;
-        below = λ j a. let p = lowest-past (misnamedAt f (m .lists .cdef) k) (m .lists .cdef .count) j (omega arith) .0 in omega arith;
+        below = λ j a. let p = lowest-past (misnamed f (m .lists .cdef) k) (m .lists .cdef .count) j (omega arith) .0 in omega arith;
         most = omega (arith, channels-few n h);
       }
 
@@ -65,30 +65,30 @@ answer-outside f m n out taken = row 0 _ (λ g. said true (outsideFile f m) (sym
 
 -- and where that is not the answer: k is the number of channels, and w, l and a are what was looked for first
 module _ (f : List ℕ) (m : Jp2) (n : ℕ) (few : n ≤ 16384) {z : Bool} (out : z ≡ holds (outsideFile f m)) (left : z ≡ false) {k w : ℕ} (e : k ≡ channels m n)
-    (d : w ≡ lowest (misnamedAt f (m .lists .cdef) k) (m .lists .cdef .count)) where
+    (d : w ≡ lowest (misnamed f (m .lists .cdef) k) (m .lists .cdef .count)) where
   inside : Says false (16384 <? n or outsideFile f m)
   inside = (few, o f m out left)
 
-  wrong-same : w ≡ lowest (misnamed f m n) (m .lists .cdef .count)
-  wrong-same = d ∙ ap (λ (x : ℕ). lowest (misnamedAt f (m .lists .cdef) x) (m .lists .cdef .count)) e
+  wrong-same : w ≡ lowest (misnamed f (m .lists .cdef) (channels m n)) (m .lists .cdef .count)
+  wrong-same = d ∙ ap (λ (x : ℕ). lowest (misnamed f (m .lists .cdef) x) (m .lists .cdef .count)) e
 
   pub answer-25 : w < m .lists .cdef .count → Refused 25 w ≡ checked f m n
   unfolding checked
   answer-25 b = let q = wrong-same in row 1 _ (inside, omega arith) (ap (Refused 25) q)
 
-  module _ {l : ℕ} (named : m .lists .cdef .count ≤ w) (g : l ≡ lowest (undefinedAt f (m .lists .cdef)) k) where
-    lacking-same : l ≡ lowest (undefined f m) (channels m n)
-    lacking-same = g ∙ ap (lowest (undefinedAt f (m .lists .cdef))) e
+  module _ {l : ℕ} (named : m .lists .cdef .count ≤ w) (g : l ≡ lowest (undefined f (m .lists .cdef)) k) where
+    lacking-same : l ≡ lowest (undefined f (m .lists .cdef)) (channels m n)
+    lacking-same = g ∙ ap (lowest (undefined f (m .lists .cdef))) e
 
     pub answer-26 : l < k → Refused 26 l ≡ checked f m n
     unfolding checked
     answer-26 b = let q = wrong-same in let r = lacking-same in row 2 _ (inside, (omega arith, omega arith)) (ap (Refused 26) r)
 
-    module _ {a : ℕ} (defined : k ≤ l) (s : a ≡ lowest (mismapped f m n) (m .lists .cmap .count)) where
+    module _ {a : ℕ} (defined : k ≤ l) (s : a ≡ lowest (mismapped f (m .lists .cmap) n) (m .lists .cmap .count)) where
       pub answer-27 : a < m .lists .cmap .count → Refused 27 a ≡ checked f m n
       unfolding checked
       answer-27 b = let q = wrong-same in let r = lacking-same in row 3 _ (inside, (omega arith, (omega arith, omega arith))) (ap (Refused 27) s)
 
-      pub answer-passed : {b : Bool} → m .lists .cmap .count ≤ a → b ≡ holds (mapped m and corrected f m n) → Passed b ≡ checked f m n
+      pub answer-passed : {b : Bool} → m .lists .cmap .count ≤ a → b ≡ holds (mapped m and corrected f (m .lists .cmap) n) → Passed b ≡ checked f m n
       unfolding checked
       answer-passed h p = let q = wrong-same in let r = lacking-same in row 4 _ (inside, (omega arith, (omega arith, (omega arith, tt)))) (ap Passed p)

@@ -13,7 +13,8 @@ use Rattle.jp2_cio.proofs.Rows.{row, each}
 use Rattle.jp2_record.specs.declared.Span.{Span}
 use Rattle.jp2_palette.specs.Cdef.{Cn}
 use Rattle.jp2_picture.specs.Channels.{lowest}
-use Rattle.jp2_check.specs.Parts.{mark, undefinedAt, unmarked}
+use Rattle.jp2_picture.specs.Check.{undefined}
+use Rattle.jp2_check.specs.Parts.{mark, unmarked}
 use Rattle.jp2_comps.proofs.Answers.{same}
 use Rattle.jp2_picture.proofs.Indices.{lowest-most, lowest-same}
 
@@ -54,11 +55,11 @@ module _ (f : List ℕ) (l : Span) where
 
   -- the channels without a mark are those that no definition names
   pub marks-all : (seen : List ℕ) (k : ℕ) → (l .count ≡ 0 → ⊥) → ((c : ℕ) → c < k → getD seen c 0 ≡ mark f l (l .count) c)
-      → lowest (unmarked seen) k ≡ lowest (undefinedAt f l) k
+      → lowest (unmarked seen) k ≡ lowest (undefined f l) k
   unfolding mark
   marks-all seen k some-count h =
-      lowest-same (unmarked seen) (undefinedAt f l) k
+      lowest-same (unmarked seen) (undefined f l) k
       (λ c b.
-      same (unmarked seen c) (undefinedAt f l c)
+      same (unmarked seen c) (undefined f l c)
       (λ u. (some-count, (u .0, each (λ (x : ℕ). getD seen c 0 ≡ x → lowest (λ j. Cn f l j =? c) (l .count) ≡ l .count) _ ((λ g. λ e. absurd (omega arith)), λ g. λ e. omega (arith, lowest-most (λ j. Cn f l j =? c) (l .count))) (h c b))))
       (λ u. λ n. λ p. λ e. u p (h c b ∙ sym (row 1 _ (omega arith, tt) refl))))

@@ -12,12 +12,12 @@ use Rattle.jp2_check.specs.declared.Checked.the-variants.{Passed, Refuse
 -- where nothing is at fault, whether the mappings are to be corrected
 unfoldable pub checked : List ℕ → Jp2 → ℕ → Checked
 checked f m n =
-    let wrong = lowest (misnamed f m n) (m .lists .cdef .count) in
-    let lacking = lowest (undefined f m) (channels m n) in
-    let astray = lowest (mismapped f m n) (m .lists .cmap .count) in
+    let wrong = lowest (misnamed f (m .lists .cdef) (channels m n)) (m .lists .cdef .count) in
+    let lacking = lowest (undefined f (m .lists .cdef)) (channels m n) in
+    let astray = lowest (mismapped f (m .lists .cmap) n) (m .lists .cmap .count) in
     table
     (16384 <? n or outsideFile f m ⇒ Refused 29 0
     ∣ wrong <? m .lists .cdef .count ⇒ Refused 25 wrong
     ∣ lacking <? channels m n ⇒ Refused 26 lacking
     ∣ astray <? m .lists .cmap .count ⇒ Refused 27 astray
-    ∣ otherwise (Passed (holds (mapped m and corrected f m n))))
+    ∣ otherwise (Passed (holds (mapped m and corrected f (m .lists .cmap) n))))

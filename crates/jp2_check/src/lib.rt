@@ -2,11 +2,12 @@
 ghost use Prim.Native.Nat.{ℕ, _+_, _*_, _≤_, _<_};
 ghost use mathlib.Core.Path.{_≡_};
 ghost use lib.ListN.{length, getD};
-ghost use Rattle.jp2_cio.specs.Table.{_<?_, holds};
-ghost use Rattle.jp2_picture.specs.Channels.{lowest, channels};
-ghost use Rattle.jp2_picture.specs.Finish.{outsideFile};
+ghost use Rattle.jp2_cio.specs.Table.{_≠?_, _<?_, _and_, holds};
+ghost use Rattle.jp2_picture.specs.Channels.{lowest, channels, direct, corrected};
+ghost use Rattle.jp2_picture.specs.Check.{misnamed, undefined, mismapped};
+ghost use Rattle.jp2_picture.specs.Finish.{outsideFile, paletteOutside, mappingsOutside, definitionsOutside};
 ghost use Rattle.jp2_check.specs.Checked.{checked};
-ghost use Rattle.jp2_check.specs.Parts.{paletteOutside, mappingsOutside, definitionsOutside, Inside, misnamedAt, mismappedAt, directAt, correctedAt, undefinedAt, unmarked, mark, Markable, Named};
+ghost use Rattle.jp2_check.specs.Parts.{Inside, unmarked, mark, Markable, Named};
 use jp2_record::Jp2;
 use jp2_record::Palette;
 use jp2_record::Span;
@@ -100,7 +101,7 @@ pub fn outside_file(f: &[u8], m: Jp2) -> bool
 // Whether definition j names a channel, or a colour, that is not below k.
 fn is_misnamed(f: &[u8], l: Span, k: u32, j: usize) -> bool
     requires { ⌜ l .place + 6 * (j + 1) ≤ length (now f) ⌝ }
-    ensures { λ r. ⌜ r ≡ holds (misnamedAt (now (f .entry)) l k j) ⌝ }
+    ensures { λ r. ⌜ r ≡ holds (misnamed (now (f .entry)) l k j) ⌝ }
 {
     let at = l.place + 6 * j;
     let channel = jp2_cio::read_u16(f, at) as u32;
@@ -123,7 +124,7 @@ fn is_misnamed(f: &[u8], l: Span, k: u32, j: usize) -> bool
 // The first definition that names a channel, or a colour, that is not below k; the count where none does.
 fn first_misnamed(f: &[u8], l: Span, k: u32) -> usize
     requires { ⌜ Inside 6 (now f) l ⌝ }
-    ensures { λ r. ⌜ r ≡ lowest (misnamedAt (now (f .entry)) l k) (l .count) ⌝ }
+    ensures { λ r. ⌜ r ≡ lowest (misnamed (now (f .entry)) l k) (l .count) ⌝ }
 {
     let count = l.count;
     let mut j: usize = 0;
@@ -169,7 +170,7 @@ fn first_unmarked(seen: &[u8], k: u32) -> u32
 // The first channel from 1 up, of k, that has no definition; k where each has one, and where there are no definitions.
 fn first_undefined(f: &[u8], l: Span, k: u32) -> u32
     requires { ⌜ Named (now f) l k ⌝ }
-    ensures { λ r. ⌜ r ≡ lowest (undefinedAt (now (f .entry)) l) k ⌝ }
+    ensures { λ r. ⌜ r ≡ lowest (undefined (now (f .entry)) l) k ⌝ }
 {
     if l.count == 0 {
         return k;
@@ -182,7 +183,7 @@ fn first_undefined(f: &[u8], l: Span, k: u32) -> u32
 // Whether mapping c has no component, of n, or is neither a direct one nor one to its own column.
 fn is_mismapped(f: &[u8], l: Span, n: u32, c: usize) -> bool
     requires { ⌜ l .place + 4 * (c + 1) ≤ length (now f) ⌝ }
-    ensures { λ r. ⌜ r ≡ holds (mismappedAt (now (f .entry)) l n c) ⌝ }
+    ensures { λ r. ⌜ r ≡ holds (mismapped (now (f .entry)) l n c) ⌝ }
 {
     let at = l.place + 4 * c;
     let component = jp2_cio::read_u16(f, at) as u32;
@@ -203,7 +204,7 @@ fn is_mismapped(f: &[u8], l: Span, n: u32, c: usize) -> bool
 // The first mapping that fails, with n components; the count where none does.
 fn first_mismapped(f: &[u8], l: Span, n: u32) -> usize
     requires { ⌜ Inside 4 (now f) l ⌝ }
-    ensures { λ r. ⌜ r ≡ lowest (mismappedAt (now (f .entry)) l n) (l .count) ⌝ }
+    ensures { λ r. ⌜ r ≡ lowest (mismapped (now (f .entry)) l n) (l .count) ⌝ }
 {
     let count = l.count;
     let mut c: usize = 0;
@@ -219,7 +220,7 @@ fn first_mismapped(f: &[u8], l: Span, n: u32) -> usize
 // The first direct mapping from 1 up; the count where there is none.
 fn first_direct(f: &[u8], l: Span) -> usize
     requires { ⌜ Inside 4 (now f) l ⌝ }
-    ensures { λ r. ⌜ r ≡ lowest (directAt (now (f .entry)) l) (l .count) ⌝ }
+    ensures { λ r. ⌜ r ≡ lowest (direct (now (f .entry)) l) (l .count) ⌝ }
 {
     let place = l.place;
     let count = l.count;
@@ -236,7 +237,7 @@ fn first_direct(f: &[u8], l: Span) -> usize
 // Whether the mappings are to be corrected, with n components.
 fn is_corrected(f: &[u8], l: Span, n: u32) -> bool
     requires { ⌜ Inside 4 (now f) l ⌝ }
-    ensures { λ r. ⌜ r ≡ holds (correctedAt (now (f .entry)) l n) ⌝ }
+    ensures { λ r. ⌜ r ≡ holds (l .count ≠? 0 and corrected (now (f .entry)) l n) ⌝ }
 {
     let count = l.count;
     if count == 0 {

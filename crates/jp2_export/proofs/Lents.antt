@@ -15,7 +15,7 @@ use Rattle.jp2_order.specs.Flat.{flat}
 use Rattle.jp2_picture.specs.Image.{Image, component, first, none, size}
 use Rattle.jp2_picture.specs.Channels.{mapped, channels, componentOf, typeOf}
 use Rattle.jp2_picture.specs.Samples.{valueOf, channelSamples, packed, startOf}
-use Rattle.jp2_picture.specs.Finish.{Finishing, counted, expanded, picture, coloured, finish}
+use Rattle.jp2_picture.specs.Finish.{Finishing, counted, expanded, picture, fitted, coloured, finish}
 
 -- the three lists of a record, and nothing else of it
 abbrev pub kept : Jp2 → Jp2
@@ -41,7 +41,7 @@ module _ (f : List ℕ) (m : Jp2) (i : Image) where
   picture-same = rw (expanded-same, packed-same (channels m (i .count))) refl
 
   coloured-same : (records samples : ℕ) → coloured f (kept m) i records samples ≡ coloured f m i records samples
-  unfolding coloured channels
+  unfolding fitted coloured channels
   coloured-same records samples = rw (picture-same, start-same (channels m (i .count))) refl
 
 -- what is left of a record with the ignore flag

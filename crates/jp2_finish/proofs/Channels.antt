@@ -60,7 +60,7 @@ module _ (f : List ℕ) (m : Jp2) (comps : List ℕ) (count : ℕ) (samples : Li
   unfolding expanded expandedAt componentOf
   record-is c e = rw e
 
-  module _ (correct : Bool) (flags : correct ≡ holds (mapped m and corrected f m count)) where
+  module _ (correct : Bool) (flags : correct ≡ holds (mapped m and corrected f (m .lists .cmap) count)) where
     -- a channel's type and its samples
     type-is : (c : ℕ) → typeAt f (m .lists .cmap) correct c ≡ typeOf f m count c
     unfolding typeAt typeOf table
@@ -108,7 +108,7 @@ module _ (f : List ℕ) (m : Jp2) (comps : List ℕ) (count : ℕ) (samples : Li
   unfolding flat packed startOf
   packed-none = record { start = refl; numbers = refl; samples = refl }
 
-  module _ (correct : Bool) (flags : correct ≡ holds (mapped m and corrected f m count)) (tested : Tested f m j) (n : ℕ) (roomy : Roomy f m j n (length records₀) (length planes₀)) where
+  module _ (correct : Bool) (flags : correct ≡ holds (mapped m and corrected f (m .lists .cmap) count)) (tested : Tested f m j) (n : ℕ) (roomy : Roomy f m j n (length records₀) (length planes₀)) where
     module _ {records : List ℕ} {planes : List ℤ} {c at : ℕ} (p : Packed f m j records₀ planes₀ records planes c at) where
       held : c ≤ n → Held f m j c
       held h k l = within f m comps count samples correct flags tested n (roomy .all) k (omega arith)

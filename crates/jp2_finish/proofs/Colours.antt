@@ -20,12 +20,12 @@ use Rattle.jp2_picture.specs.Image.{Image, image}
 use Rattle.jp2_picture.specs.Channels.{lowest, mapped, corrected, channels}
 use Rattle.jp2_picture.specs.Samples.{startOf}
 use Rattle.jp2_picture.specs.Check.{misnamed, undefined, mismapped, dataless}
-use Rattle.jp2_picture.specs.Finish.{Finishing, finished, declined, outsideLists, outsideFile, counted, expanded, picture, coloured, finish}
+use Rattle.jp2_picture.specs.Finish.{Finishing, finished, declined, outsideLists, outsideFile, counted, expanded, picture, fitted, coloured, finish}
 use Rattle.jp2_picture.proofs.Indices.{decide, lowest-none}
 use Rattle.jp2_finish.specs.declared.Finished.{Finished}
 use Rattle.jp2_finish.specs.declared.Finished.the-variants.{Planes, Refused}
 use Rattle.jp2_finish.specs.Answers.{answered, fronted, recordsAfter, samplesAfter}
-use Rattle.jp2_finish.specs.Parts.{Tested, unordered, room, Done}
+use Rattle.jp2_finish.specs.Parts.{Tested, unordered, Done}
 use Rattle.jp2_finish.proofs.Rooms.{refused-is}
 
 -- a refusal leaves both destinations

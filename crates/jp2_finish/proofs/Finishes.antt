@@ -12,18 +12,18 @@ use Rattle.jp2_record.specs.declared.Jp2.{Jp2}
 use Rattle.jp2_picture.specs.Image.{Image}
 use Rattle.jp2_picture.specs.Channels.{lowest, mapped, channels, corrected}
 use Rattle.jp2_picture.specs.Check.{misnamed, undefined, mismapped}
-use Rattle.jp2_picture.specs.Finish.{Finishing, declined, outsideLists, outsideFile, counted, coloured, finish}
+use Rattle.jp2_picture.specs.Finish.{Finishing, declined, outsideLists, outsideFile, counted, fitted, coloured, finish}
 use Rattle.jp2_picture.proofs.Indices.{lowest-none}
 use Rattle.jp2_check.specs.declared.Checked.{Checked}
 use Rattle.jp2_check.specs.declared.Checked.the-variants.{Passed, Refused}
 use Rattle.jp2_check.specs.Checked.{checked}
 use Rattle.jp2_finish.specs.declared.Finished.{Finished}
 use Rattle.jp2_finish.specs.Answers.{answered, recordsAfter, samplesAfter}
-use Rattle.jp2_finish.specs.Parts.{Tested, room, Done}
+use Rattle.jp2_finish.specs.Parts.{Tested, Done}
 
 -- what the checks tell of the table of finishing
 abbrev Told : List ℕ → Jp2 → Image → Finishing → ℕ → ℕ → Checked → Type 0
-Told f m i x records samples (Passed correct) = (x ≡ room f m i records samples) × ((c : ℕ) → c < m .lists .cmap .count → Says false (mismapped f m (i .count) c)) × (correct ≡ holds (mapped m and corrected f m (i .count)))
+Told f m i x records samples (Passed correct) = (x ≡ fitted f m i records samples) × ((c : ℕ) → c < m .lists .cmap .count → Says false (mismapped f (m .lists .cmap) (i .count) c)) × (correct ≡ holds (mapped m and corrected f (m .lists .cmap) (i .count)))
 Told f m i x records samples (Refused number place) = x ≡ declined number place
 
 module _ (f : List ℕ) (m : Jp2) (i : Image) (records samples : ℕ) where
@@ -31,13 +31,13 @@ module _ (f : List ℕ) (m : Jp2) (i : Image) (records samples : ℕ) where
   x = coloured f m i records samples
 
   abbrev wrong : ℕ
-  wrong = lowest (misnamed f m (i .count)) (m .lists .cdef .count)
+  wrong = lowest (misnamed f (m .lists .cdef) (channels m (i .count))) (m .lists .cdef .count)
 
   abbrev lacking : ℕ
-  lacking = lowest (undefined f m) (channels m (i .count))
+  lacking = lowest (undefined f (m .lists .cdef)) (channels m (i .count))
 
   abbrev astray : ℕ
-  astray = lowest (mismapped f m (i .count)) (m .lists .cmap .count)
+  astray = lowest (mismapped f (m .lists .cmap) (i .count)) (m .lists .cmap .count)
 
   told-25 : wrong < m .lists .cdef .count → x ≡ declined 25 wrong
   unfolding coloured
@@ -52,9 +52,9 @@ module _ (f : List ℕ) (m : Jp2) (i : Image) (records samples : ℕ) where
   told-27 named defined h = sym (row 2 _ (named, (defined, h)) refl)
 
   -- where the checks pass, what is left of the table
-  rest : m .lists .cdef .count ≤ wrong → channels m (i .count) ≤ lacking → m .lists .cmap .count ≤ astray → x ≡ room f m i records samples
-  unfolding coloured room table
-  rest named defined mapping = rw (shown false (wrong <? m .lists .cdef .count) named, shown false (lacking <? channels m (i .count)) defined, shown false (astray <? m .lists .cmap .count) mapping)
+  rest : m .lists .cdef .count ≤ wrong → channels m (i .count) ≤ lacking → m .lists .cmap .count ≤ astray → x ≡ fitted f m i records samples
+  unfolding coloured
+  rest named defined mapping = sym (row 3 _ (named, (defined, (mapping, tt))) refl)
 
   pub checks-tell : i .count ≤ 16384 → Says false (outsideFile f m) → Told f m i x records samples (checked f m (i .count))
   unfolding checked
@@ -105,10 +105,10 @@ module _ (f : List ℕ) (m : Jp2) (ignore : ℕ) (i : Image) (records samples : 
     pub entry-tested : Tested f k i
     entry-tested = record { lists = lists; file = inside; mapping = passed .1 }
 
-    pub entry-flags : correct ≡ holds (mapped k and corrected f k (i .count))
+    pub entry-flags : correct ≡ holds (mapped k and corrected f (k .lists .cmap) (i .count))
     entry-flags = passed .2
 
-    pub entry-on : finish f m ignore i records samples ≡ room f k i records samples
+    pub entry-on : finish f m ignore i records samples ≡ fitted f k i records samples
     entry-on = on ∙ passed .0
 
 -- the answer and both destinations, under another name of the finishing

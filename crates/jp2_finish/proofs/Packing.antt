@@ -11,7 +11,8 @@ use Rattle.jp2_cio.specs.Table.{_=?_, _or_, _and_}
 use Rattle.jp2_cio.proofs.Rows.{row}
 use Rattle.jp2_record.specs.declared.Palette.{Palette}
 use Rattle.jp2_picture.specs.Image.{first, none, size}
-use Rattle.jp2_plane.specs.Plane.{plane, placed, put, outside, noColumn, valueFor}
+use Rattle.jp2_picture.specs.Samples.{valueFor}
+use Rattle.jp2_plane.specs.Plane.{plane, placed, put, outside, noColumn}
 use Rattle.jp2_comps.specs.Alone.{listed}
 use Rattle.jp2_finish.specs.Parts.{samplesAt, Packable}
 

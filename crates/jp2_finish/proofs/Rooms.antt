@@ -14,7 +14,7 @@ use Rattle.jp2_picture.specs.Image.{Image, image, first, none, size}
 use Rattle.jp2_picture.specs.Channels.{lowest, channels, componentOf}
 use Rattle.jp2_picture.specs.Samples.{startOf}
 use Rattle.jp2_picture.specs.Check.{dataless}
-use Rattle.jp2_picture.specs.Finish.{Finishing, finished, declined, outsideFile, picture}
+use Rattle.jp2_picture.specs.Finish.{Finishing, finished, declined, outsideFile, picture, fitted}
 use Rattle.jp2_picture.proofs.Indices.{decide}
 use Rattle.jp2_picture.proofs.Packs.{Within}
 use Rattle.jp2_picture.proofs.Mappings.{kept, channels-few, component-inside}
@@ -23,7 +23,7 @@ use Rattle.jp2_comps.proofs.Planes.{size-none, size-area}
 use Rattle.jp2_finish.specs.declared.Finished.{Finished}
 use Rattle.jp2_finish.specs.declared.Finished.the-variants.{Planes, Refused}
 use Rattle.jp2_finish.specs.Answers.{answered}
-use Rattle.jp2_finish.specs.Parts.{Tested, Roomy, room}
+use Rattle.jp2_finish.specs.Parts.{Tested, Roomy}
 
 -- an answer tells its finishing
 pub refused-is : (x : Finishing) {number place : ℕ} → Refused number place ≡ answered x → x ≡ declined number place
@@ -81,32 +81,32 @@ module _ (f : List ℕ) (m : Jp2) (comps : List ℕ) (count : ℕ) (samples : Li
 
   module _ (records planes : ℕ) where
     abbrev blank : ℕ
-    blank = lowest (dataless f m i) (m .lists .cmap .count)
+    blank = lowest (dataless f (m .lists .cmap) i) (m .lists .cmap .count)
 
-    pub refused-28 : {b : ℕ} → b ≡ blank → b < m .lists .cmap .count → Refused 28 b ≡ answered (room f m i records planes)
-    unfolding room answered
+    pub refused-28 : {b : ℕ} → b ≡ blank → b < m .lists .cmap .count → Refused 28 b ≡ answered (fitted f m i records planes)
+    unfolding fitted answered
     refused-28 e l = rw e (ap answered (row 0 _ (omega arith) refl))
 
     module _ {b n : ℕ} (e : b ≡ blank) (h : m .lists .cmap .count ≤ b) (d : n ≡ channels m count) where
-      pub refused-30-records : records < 13 * n → Refused 30 (13 * n) ≡ answered (room f m i records planes)
-      unfolding room answered
+      pub refused-30-records : records < 13 * n → Refused 30 (13 * n) ≡ answered (fitted f m i records planes)
+      unfolding fitted answered
       refused-30-records l = rw d (ap answered (row 1 _ (omega arith) refl))
 
       module _ {needed : ℕ} (s : needed ≡ startOf f m i n) (r : 13 * n ≤ records) where
         is : needed ≡ startOf f m i (channels m count)
         is = s ∙ ap (startOf f m i) d
 
-        pub refused-30-samples : (needed ≤ 4294967294 → planes < needed) → Refused 30 needed ≡ answered (room f m i records planes)
-        unfolding room answered
+        pub refused-30-samples : (needed ≤ 4294967294 → planes < needed) → Refused 30 needed ≡ answered (fitted f m i records planes)
+        unfolding fitted answered
         refused-30-samples l = let z = is in rw z (ap answered (row 2 _ (omega arith, (omega arith, (λ few. omega (arith, l (omega arith))))) refl))
 
-        pub planes-fit : needed ≤ 4294967294 → needed ≤ planes → Planes n ≡ answered (room f m i records planes)
-        unfolding room answered picture
+        pub planes-fit : needed ≤ 4294967294 → needed ≤ planes → Planes n ≡ answered (fitted f m i records planes)
+        unfolding fitted answered picture
         planes-fit l k = let z = is in rw d (ap answered (row 3 _ (omega arith, (omega arith, ((omega arith, omega arith), tt))) refl))
 
     -- planes are told where all is well
-    pub planes-are : {n : ℕ} → Planes n ≡ answered (room f m i records planes) → (room f m i records planes ≡ finished (picture f m i)) × Roomy f m i n records planes
-    unfolding room picture
+    pub planes-are : {n : ℕ} → Planes n ≡ answered (fitted f m i records planes) → (fitted f m i records planes ≡ finished (picture f m i)) × Roomy f m i n records planes
+    unfolding fitted picture
     planes-are {n} =
         each (λ x. Planes n ≡ answered x → (x ≡ finished (picture f m i)) × Roomy f m i n records planes) _ (
           (λ _. clash _ _),

@@ -14,11 +14,11 @@ use Rattle.jp2_palette.specs.Pclr.{depth, sign, B}
 use Rattle.jp2_palette.specs.Cmap.{MTYP}
 use Rattle.jp2_order.specs.Flat.{flat}
 use Rattle.jp2_picture.specs.Image.{Image, image, component, first, none, size}
-use Rattle.jp2_picture.specs.Channels.{lowest, channels}
-use Rattle.jp2_picture.specs.Samples.{packed, startOf}
-use Rattle.jp2_picture.specs.Check.{mismapped, dataless}
-use Rattle.jp2_picture.specs.Finish.{Finishing, finished, declined, outsideLists, outsideFile, expanded, picture}
-use Rattle.jp2_plane.specs.Plane.{plane, noColumn, valueFor}
+use Rattle.jp2_picture.specs.Channels.{channels}
+use Rattle.jp2_picture.specs.Samples.{packed, startOf, valueFor}
+use Rattle.jp2_picture.specs.Check.{mismapped}
+use Rattle.jp2_picture.specs.Finish.{Finishing, outsideLists, outsideFile, expanded}
+use Rattle.jp2_plane.specs.Plane.{plane, noColumn}
 use Rattle.jp2_comps.specs.Alone.{listed}
 use Rattle.jp2_finish.specs.declared.Finished.{Finished}
 use Rattle.jp2_finish.specs.Answers.{answered, recordsAfter, samplesAfter}
@@ -54,7 +54,7 @@ pub record Packable (f : List ℕ) (p : Palette) (comps : List ℕ) (samples : L
 pub record Tested (f : List ℕ) (m : Jp2) (i : Image) : Type 0 where
   pub lists : Says false (outsideLists i)
   pub file : Says false (outsideFile f m)
-  pub mapping : (c : ℕ) → c < m .lists .cmap .count → Says false (mismapped f m (i .count) c)
+  pub mapping : (c : ℕ) → c < m .lists .cmap .count → Says false (mismapped f (m .lists .cmap) (i .count) c)
 
 -- and there is room for the n channels
 pub record Roomy (f : List ℕ) (m : Jp2) (i : Image) (n records samples : ℕ) : Type 0 where
@@ -66,18 +66,6 @@ pub record Roomy (f : List ℕ) (m : Jp2) (i : Image) (n records samples : ℕ) 
 -- the picture before its planes are put in order
 unfoldable pub unordered : List ℕ → Jp2 → Image → Image
 unordered f m i = let n = channels m (i .count) in image (flat (expanded f m i) (13 * n)) n (packed f m i n)
-
--- the rows of `coloured` from 28 on
-unfoldable pub room : List ℕ → Jp2 → Image → ℕ → ℕ → Finishing
-room f m i records samples =
-    let n = channels m (i .count) in
-    let blank = lowest (dataless f m i) (m .lists .cmap .count) in
-    let needed = startOf f m i n in
-    table
-    (blank <? m .lists .cmap .count ⇒ declined 28 blank
-    ∣ records <? 13 * n ⇒ declined 30 (13 * n)
-    ∣ 4294967294 <? needed or samples <? needed ⇒ declined 30 needed
-    ∣ otherwise (finished (picture f m i)))
 
 -- a finishing is answered, and has left in the destinations what it is to leave
 pub record Done (x : Finishing) (r : Finished) (records records′ : List ℕ) (planes planes′ : List ℤ) : Type 0 where

@@ -10,10 +10,10 @@ ghost use Rattle.jp2_picture.specs.Image.{image, size};
 ghost use Rattle.jp2_picture.specs.Channels.{lowest, mapped, corrected, componentOf};
 ghost use Rattle.jp2_picture.specs.Samples.{startOf};
 ghost use Rattle.jp2_picture.specs.Check.{dataless};
-ghost use Rattle.jp2_picture.specs.Finish.{counted, finish};
+ghost use Rattle.jp2_picture.specs.Finish.{counted, fitted, finish};
 ghost use Rattle.jp2_comps.specs.Alone.{listed, mappings};
 ghost use Rattle.jp2_finish.specs.Answers.{answered, fronted, recordsAfter, samplesAfter};
-ghost use Rattle.jp2_finish.specs.Parts.{typeAt, expandedAt, recordAt, samplesAt, Packable, Tested, Roomy, unordered, room, Done};
+ghost use Rattle.jp2_finish.specs.Parts.{typeAt, expandedAt, recordAt, samplesAt, Packable, Tested, Roomy, unordered, Done};
 use jp2_check::Checked;
 use jp2_record::Jp2;
 use jp2_record::Palette;
@@ -186,7 +186,7 @@ fn opj_jp2_apply_pclr(
     planes: &mut [i32],
 )
     requires { ⌜ Tested (now f) m (image (now comps) count (now samples)) ⌝ }
-    requires { ⌜ correct ≡ holds (mapped m and corrected (now f) m count) ⌝ }
+    requires { ⌜ correct ≡ holds (mapped m and corrected (now f) (m .lists .cmap) count) ⌝ }
     requires { ⌜ Roomy (now f) m (image (now comps) count (now samples)) n (length (now records)) (length (now planes)) ⌝ }
     ensures { λ _. ⌜ now (records .exit) ≡ fronted (unordered (now (f .entry)) m (image (now (comps .entry)) count (now (samples .entry))) .components) (now (records .entry)) ⌝ }
     ensures { λ _. ⌜ now (planes .exit) ≡ fronted (unordered (now (f .entry)) m (image (now (comps .entry)) count (now (samples .entry))) .samples) (now (planes .entry)) ⌝ }
@@ -224,7 +224,7 @@ fn order(f: &[u8], cdef: Span, records: &mut [u32], n: u32)
 // The first mapping whose component has no samples; the count where each has some.
 fn first_dataless(f: &[u8], l: Span, comps: &[u32]) -> usize
     requires { ⌜ l .count ≤ 16384 ⌝ }
-    ensures { λ r. ⌜ r ≡ lowest (dataless (now (f .entry)) (mappings l) (listed (now (comps .entry)))) (l .count) ⌝ }
+    ensures { λ r. ⌜ r ≡ lowest (dataless (now (f .entry)) l (listed (now (comps .entry)))) (l .count) ⌝ }
 {
     let count = l.count;
     let mut c: usize = 0;
@@ -264,7 +264,7 @@ fn room(
     planes: usize,
 ) -> Finished
     requires { ⌜ Tested (now f) m (image (now comps) count (now samples)) ⌝ }
-    ensures { λ r. ⌜ r ≡ answered (room (now (f .entry)) m (image (now (comps .entry)) count (now (samples .entry))) records planes) ⌝ }
+    ensures { λ r. ⌜ r ≡ answered (fitted (now (f .entry)) m (image (now (comps .entry)) count (now (samples .entry))) records planes) ⌝ }
 {
     let l = m.lists.cmap;
     let blank = first_dataless(f, l, comps);
@@ -297,8 +297,8 @@ fn colour(
     planes: &mut [i32],
 ) -> Finished
     requires { ⌜ Tested (now f) m (image (now comps) count (now samples)) ⌝ }
-    requires { ⌜ correct ≡ holds (mapped m and corrected (now f) m count) ⌝ }
-    ensures { λ r. ⌜ Done (room (now (f .entry)) m (image (now (comps .entry)) count (now (samples .entry))) (length (now (records .entry))) (length (now (planes .entry)))) r (now (records .entry)) (now (records .exit)) (now (planes .entry)) (now (planes .exit)) ⌝ }
+    requires { ⌜ correct ≡ holds (mapped m and corrected (now f) (m .lists .cmap) count) ⌝ }
+    ensures { λ r. ⌜ Done (fitted (now (f .entry)) m (image (now (comps .entry)) count (now (samples .entry))) (length (now (records .entry))) (length (now (planes .entry)))) r (now (records .entry)) (now (records .exit)) (now (planes .entry)) (now (planes .exit)) ⌝ }
 {
     match room(f, m, comps, count, samples, records.len(), planes.len()) {
         Finished::Refused(number, length) => Finished::Refused(number, length),

@@ -23,13 +23,13 @@ use Rattle.jp2_picture.proofs.Agrees.{Agree, agree-counted, outside-sam
 
 module _ {f g : List ℕ} {m : Jp2} (a : Agree f g m) where
   -- 25: no definition is misnamed where none is in the other file
-  named-same : (n : ℕ) → ((j : ℕ) → j < m .lists .cdef .count → Says false (misnamed f m n j)) → (j : ℕ) → j < m .lists .cdef .count → Says false (misnamed g m n j)
+  named-same : (n : ℕ) → ((j : ℕ) → j < m .lists .cdef .count → Says false (misnamed f (m .lists .cdef) n j)) → (j : ℕ) → j < m .lists .cdef .count → Says false (misnamed g (m .lists .cdef) n j)
   named-same n named j l =
       let (k, b, e) = elsewhere g f (m .lists .cdef) (λ d. sym (a .reordered d)) j l in
       rw (ap (λ (d : Def). d .channel) e, ap (λ (d : Def). d .asoc) e) (named k b)
 
   -- 26: a channel is defined where it is in the other file
-  defined-same : (c : ℕ) → Says false (undefined f m c) → Says false (undefined g m c)
+  defined-same : (c : ℕ) → Says false (undefined f (m .lists .cdef) c) → Says false (undefined g (m .lists .cdef) c)
   defined-same c defined some from none =
       let l = m .lists .cdef in
       let here : l .count ≤ lowest (λ j. Cn f l j =? c) (l .count) = none-lowest _ (l .count) (λ j b z. absent j b z) in
@@ -45,7 +45,7 @@ module _ (h : Handed) (g : List ℕ) (m : Jp2) (a : Agree (h .file) g m) where
   checked-same k c =
       let start = start-same a k (h .image) (channels m (h .image .count)) (le-refl _) in
       record {
-        named = named-same a (h .image .count) (c .named);
+        named = named-same a (channels m (h .image .count)) (c .named);
         defined = λ x l. defined-same a x (c .defined x l);
         mapping = λ x l. rw (a .mappings .component x l, a .mappings .type x l, a .mappings .column x l) (c .mapping x l);
         lent = λ x l. rw (a .mappings .component x l) (c .lent x l);

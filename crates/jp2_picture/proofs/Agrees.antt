@@ -17,7 +17,7 @@ use Rattle.jp2_reading.specs.Free.{SamePalette, SameMappings}
 use Rattle.jp2_order.specs.Definitions.{definitionsTo, definitions, Reordered}
 use Rattle.jp2_picture.specs.Image.{Image}
 use Rattle.jp2_picture.specs.Channels.{lowest, mapped, channels, componentOf, typeOf}
-use Rattle.jp2_picture.specs.Samples.{held, lookup, valueOf, channelSamples, packed, startOf}
+use Rattle.jp2_picture.specs.Samples.{held, lookup, valueFor, valueOf, channelSamples, packed, startOf}
 use Rattle.jp2_picture.specs.Finish.{outsideFile, counted, expanded}
 use Rattle.jp2_picture.proofs.Indices.{decide}
 use Rattle.jp2_picture.proofs.Mappings.{Kept, channel-cases, mapped-channels, mapped-component, plain-component, plain-type}
@@ -87,7 +87,7 @@ module _ {f g : List ℕ} {m : Jp2} (a : Agree f g m) where
     lookup-same s e = rw (a .palette .entry (held s (m .lists .pclr .entries - 1)) c (held-below s _ (k .entries (typed e))) (omega (arith, mapped-channels m n (typed e))))
 
     value-same : (s : ℤ) → valueOf g m n c s ≡ valueOf f m n c s
-    unfolding valueOf
+    unfolding valueFor valueOf
     value-same s = rw type-same (each (λ v. v ≡ valueOf f m n c s) _ ((λ e. row 0 _ e (lookup-same s e)), λ e. row 1 _ (e, tt) refl))
 
   module _ (k : Kept m) (i : Image) where

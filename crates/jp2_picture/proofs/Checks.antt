@@ -9,16 +9,16 @@ use Rattle.jp2_picture.specs.Image.{Image}
 use Rattle.jp2_picture.specs.Channels.{channels}
 use Rattle.jp2_picture.specs.Samples.{startOf}
 use Rattle.jp2_picture.specs.Check.{misnamed, undefined, mismapped, dataless}
-use Rattle.jp2_picture.specs.Finish.{Finishing, finished, declined, outsideLists, outsideFile, counted, picture, coloured, finish}
+use Rattle.jp2_picture.specs.Finish.{Finishing, finished, declined, outsideLists, outsideFile, counted, picture, fitted, coloured, finish}
 use Rattle.jp2_picture.specs.Words.{Handed}
 use Rattle.jp2_picture.proofs.Indices.{lowest-none, none-lowest}
 
 -- 25 to 28 and 30 pass
 pub record Checked (h : Handed) (m : Jp2) : Type 0 where
-  pub named : (j : ℕ) → j < m .lists .cdef .count → Says false (misnamed (h .file) m (h .image .count) j)
-  pub defined : (c : ℕ) → c < channels m (h .image .count) → Says false (undefined (h .file) m c)
-  pub mapping : (c : ℕ) → c < m .lists .cmap .count → Says false (mismapped (h .file) m (h .image .count) c)
-  pub lent : (c : ℕ) → c < m .lists .cmap .count → Says false (dataless (h .file) m (h .image) c)
+  pub named : (j : ℕ) → j < m .lists .cdef .count → Says false (misnamed (h .file) (m .lists .cdef) (channels m (h .image .count)) j)
+  pub defined : (c : ℕ) → c < channels m (h .image .count) → Says false (undefined (h .file) (m .lists .cdef) c)
+  pub mapping : (c : ℕ) → c < m .lists .cmap .count → Says false (mismapped (h .file) (m .lists .cmap) (h .image .count) c)
+  pub lent : (c : ℕ) → c < m .lists .cmap .count → Says false (dataless (h .file) (m .lists .cmap) (h .image) c)
   pub record-room : 13 * channels m (h .image .count) ≤ h .records
   pub most : startOf (h .file) m (h .image) (channels m (h .image .count)) ≤ 4294967294
   pub sample-room : startOf (h .file) m (h .image) (channels m (h .image .count)) ≤ h .samples
@@ -49,7 +49,7 @@ module _ (h : Handed) (m : Jp2) where
   made = picture (h .file) m (h .image)
 
   coloured-checked : Where (λ planes. Checked h m × (planes ≡ made)) colouring
-  unfolding coloured
+  unfolding fitted coloured
   coloured-checked =
       each (Where (λ planes. Checked h m × (planes ≡ made))) _ (
         (λ _. tt),
@@ -57,38 +57,37 @@ module _ (h : Handed) (m : Jp2) where
           (λ _. tt),
           λ defined. (
             (λ _. tt),
-            λ mapping. (
-              (λ _. tt),
-              λ lent. (
-                (λ _. tt),
-                λ room. (
+            λ mapping.
+                each (Where (λ planes. Checked h m × (planes ≡ made))) _ (
                   (λ _. tt),
-                  λ fits. (
-                    record {
-                      named = lowest-none _ _ named;
-                      defined = lowest-none _ _ defined;
-                      mapping = lowest-none _ _ mapping;
-                      lent = lowest-none _ _ lent;
-                      record-room = room;
-                      most = fits .0;
-                      sample-room = fits .1;
-                    },
-                    refl,
+                  λ lent. (
+                    (λ _. tt),
+                    λ room. (
+                      (λ _. tt),
+                      λ fits. (
+                        record {
+                          named = lowest-none _ _ named;
+                          defined = lowest-none _ _ defined;
+                          mapping = lowest-none _ _ mapping;
+                          lent = lowest-none _ _ lent;
+                          record-room = room;
+                          most = fits .0;
+                          sample-room = fits .1;
+                        },
+                        refl,
+                      ),
+                    ),
                   ),
                 ),
-              ),
-            ),
           ),
         ),
       )
 
   checked-coloured : Checked h m → colouring ≡ finished made
-  unfolding coloured
+  unfolding fitted coloured
   checked-coloured c =
-      sym (row 6 _ (
-        none-lowest _ _ (c .named),
-        (none-lowest _ _ (c .defined), (none-lowest _ _ (c .mapping), (none-lowest _ _ (c .lent), (c .record-room, ((c .most, c .sample-room), tt))))),
-      ) refl)
+      sym (row 3 _ (none-lowest _ _ (c .named), (none-lowest _ _ (c .defined), (none-lowest _ _ (c .mapping), tt)))
+      (row 3 _ (none-lowest _ _ (c .lent), (c .record-room, ((c .most, c .sample-room), tt))) refl))
 
 module _ (h : Handed) (m : Jp2) where
   abbrev k : Jp2

@@ -65,7 +65,7 @@ module _ (m : Jp2) where
     plain-type n h = sym (row 2 _ ((λ z. absurd (z h)), (h, tt)) refl)
 
 -- every channel's component exists, and its samples lie in the list
-module _ (f : List ℕ) (m : Jp2) (i : Image) (kept : Kept m) (mapping : (c : ℕ) → c < m .lists .cmap .count → Says false (mismapped f m (i .count) c)) (c : ℕ) (l : c < channels m (i .count)) where
+module _ (f : List ℕ) (m : Jp2) (i : Image) (kept : Kept m) (mapping : (c : ℕ) → c < m .lists .cmap .count → Says false (mismapped f (m .lists .cmap) (i .count) c)) (c : ℕ) (l : c < channels m (i .count)) where
   component-below : componentOf f m c < i .count
   component-below =
       channel-cases m (i .count) c kept l

@@ -32,8 +32,8 @@ use Rattle.jp2_order.specs.Flat.{flat}
 use Rattle.jp2_order.specs.Order as order
 use Rattle.jp2_picture.specs.Image.{Image, size}
 use Rattle.jp2_picture.specs.Channels.{lowest, channels, componentOf, typeOf}
-use Rattle.jp2_picture.specs.Samples.{displayed, lookup, valueOf, channelSamples, packed, startOf}
-use Rattle.jp2_picture.specs.Finish.{counted, expanded, picture, coloured, finish}
+use Rattle.jp2_picture.specs.Samples.{displayed, lookup, valueFor, valueOf, channelSamples, packed, startOf}
+use Rattle.jp2_picture.specs.Finish.{counted, expanded, picture, fitted, coloured, finish}
 use Rattle.jp2_picture.specs.Words.{Handed, Accepted}
 use Rattle.jp2_picture.specs.Met.{otherwise-turned, directFile, direct, directPlanes, palettedFile, paletted, palettedPlanes, Met, DirectMet, PaletteMet}
 use Rattle.jp2_picture.proofs.Distinct.{once-pairwise, swapped, alike-parts}
@@ -69,7 +69,7 @@ keptOf (refused number place) = blank
 
 -- what reading and finishing compute with
 computing : ℕ
-unfolding table number part kindOf headerLength boxLength withBit signature fileType ihdr bpcc lab colr entryBytes rowBytes pclr cmap cdef split readAll lacksIhdr jp2h outer run walk definitionsTo exchange define order.run size lowest channels componentOf typeOf displayed lookup valueOf channelSamples packed startOf Cji counted expanded flat picture coloured finish
+unfolding table number part kindOf headerLength boxLength withBit signature fileType ihdr bpcc lab colr entryBytes rowBytes pclr cmap cdef split readAll lacksIhdr jp2h outer run walk definitionsTo exchange define order.run size lowest channels componentOf typeOf displayed lookup valueFor valueOf channelSamples packed startOf Cji counted expanded flat picture fitted coloured finish
 computing = 0
 
 pub direct-met : DirectMet

@@ -7,18 +7,20 @@ use mathlib.Core.List.{List}
 use Rattle.jp2_cio.proofs.Rows.{each}
 use Rattle.jp2_record.specs.declared.Jp2.{Jp2}
 use Rattle.jp2_picture.specs.Image.{Image}
-use Rattle.jp2_picture.specs.Finish.{Finishing, finished, declined, counted, coloured, finish}
+use Rattle.jp2_picture.specs.Finish.{Finishing, finished, declined, counted, fitted, coloured, finish}
 use Rattle.jp2_picture.specs.Refusals.{FinishingNumbers}
 
 abbrev Numbered : Finishing → Type 0
 Numbered (finished planes) = Unit
 Numbered (declined number place) = (25 ≤ number) × (number ≤ 30)
 
+fitted-numbered : (f : List ℕ) (m : Jp2) (i : Image) (records samples : ℕ) → Numbered (fitted f m i records samples)
+unfolding fitted
+fitted-numbered f m i records samples = each Numbered _ ((λ _. (omega arith, omega arith)), λ _. ((λ _. (omega arith, omega arith)), λ _. ((λ _. (omega arith, omega arith)), λ _. tt)))
+
 coloured-numbered : (f : List ℕ) (m : Jp2) (i : Image) (records samples : ℕ) → Numbered (coloured f m i records samples)
 unfolding coloured
-coloured-numbered f m i records samples =
-    each Numbered _
-    ((λ _. (omega arith, omega arith)), λ _. ((λ _. (omega arith, omega arith)), λ _. ((λ _. (omega arith, omega arith)), λ _. ((λ _. (omega arith, omega arith)), λ _. ((λ _. (omega arith, omega arith)), λ _. ((λ _. (omega arith, omega arith)), λ _. tt))))))
+coloured-numbered f m i records samples = each Numbered _ ((λ _. (omega arith, omega arith)), λ _. ((λ _. (omega arith, omega arith)), λ _. ((λ _. (omega arith, omega arith)), λ _. fitted-numbered f m i records samples)))
 
 finish-numbered : (f : List ℕ) (m : Jp2) (ignore : ℕ) (i : Image) (records samples : ℕ) → Numbered (finish f m ignore i records samples)
 unfolding finish

@@ -27,8 +27,8 @@ use Rattle.jp2_order.specs.Flat.{flat}
 use Rattle.jp2_order.specs.Order as order
 use Rattle.jp2_picture.specs.Image.{Image, component, sampleAt, size}
 use Rattle.jp2_picture.specs.Channels.{lowest, channels, componentOf, typeOf}
-use Rattle.jp2_picture.specs.Samples.{displayed, lookup, valueOf, channelSamples, packed, startOf}
-use Rattle.jp2_picture.specs.Finish.{Finishing, finished, declined, counted, expanded, picture, coloured, finish}
+use Rattle.jp2_picture.specs.Samples.{displayed, lookup, valueFor, valueOf, channelSamples, packed, startOf}
+use Rattle.jp2_picture.specs.Finish.{Finishing, finished, declined, counted, expanded, picture, fitted, coloured, finish}
 
 -- LBox, TBox and the content
 abbrev pub box : ℕ → List ℕ → List ℕ
@@ -137,5 +137,5 @@ told end = []
 told (ss with boxes gives o ∣ rest) = o ∷ told rest
 
 pub marked : come cases ≡ told cases
-unfolding table number part bytes kindOf headerLength boxLength withBit signature fileType ihdr entryBytes rowBytes Cji pclr cmap cdef split readAll lacksIhdr jp2h outer file.run walk definitionsTo exchange define order.run size lowest channels componentOf typeOf displayed lookup valueOf channelSamples packed startOf counted expanded flat picture coloured finish
+unfolding table number part bytes kindOf headerLength boxLength withBit signature fileType ihdr entryBytes rowBytes Cji pclr cmap cdef split readAll lacksIhdr jp2h outer file.run walk definitionsTo exchange define order.run size lowest channels componentOf typeOf displayed lookup valueFor valueOf channelSamples packed startOf counted expanded flat picture fitted coloured finish
 marked = refl

@@ -2,6 +2,7 @@
 use Prim.Native.Nat.{ℕ, zero, suc}
 use mathlib.Core.List.{List}
 use Rattle.jp2_cio.specs.Table.{Test, _=?_, _≠?_, _<?_, _and_, Rows, otherwise, _⇒_∣_, table}
+use Rattle.jp2_record.specs.declared.Span.{Span}
 use Rattle.jp2_record.specs.declared.Jp2.{Jp2}
 use Rattle.jp2_palette.specs.Cmap.{CMP, MTYP}
 
@@ -25,10 +26,14 @@ channels m n = table (mapped m ⇒ m .lists .pclr .columns ∣ otherwise n)
 unfoldable pub componentOf : List ℕ → Jp2 → ℕ → ℕ
 componentOf f m c = table (mapped m ⇒ CMP f (m .lists .cmap) c ∣ otherwise c)
 
+-- mapping c, from 1 up, is a direct one
+abbrev pub direct : List ℕ → Span → ℕ → Test
+direct f l c = 0 <? c and MTYP f l c =? 0
+
 -- with one component, a direct mapping of a channel other than 0 makes all mappings palette mappings, each to its own column (difference 22)
-abbrev pub corrected : List ℕ → Jp2 → ℕ → Test
-corrected f m n = n =? 1 and some (λ c. 0 <? c and MTYP f (m .lists .cmap) c =? 0) (m .lists .cmap .count)
+abbrev pub corrected : List ℕ → Span → ℕ → Test
+corrected f l n = n =? 1 and some (direct f l) (l .count)
 
 -- channel c's type: 0 is direct use of its component, 1 the palette's column c
 unfoldable pub typeOf : List ℕ → Jp2 → ℕ → ℕ → ℕ
-typeOf f m n c = table (mapped m and corrected f m n ⇒ 1 ∣ mapped m ⇒ MTYP f (m .lists .cmap) c ∣ otherwise 0)
+typeOf f m n c = table (mapped m and corrected f (m .lists .cmap) n ⇒ 1 ∣ mapped m ⇒ MTYP f (m .lists .cmap) c ∣ otherwise 0)

@@ -3,6 +3,8 @@ use Prim.Native.Nat.{ℕ, _+_, _*_}
 use mathlib.Core.List.{List}
 use lib.ListN.{length}
 use Rattle.jp2_cio.specs.Table.{Test, _=?_, _≠?_, _<?_, _or_, _and_, Rows, otherwise, _⇒_∣_, table}
+use Rattle.jp2_record.specs.declared.Span.{Span}
+use Rattle.jp2_record.specs.declared.Palette.{Palette}
 use Rattle.jp2_record.specs.declared.Jp2.{Jp2}
 use Rattle.jp2_record.specs.Record.{span, palette, withPclr, withCmap, withCdef}
 use Rattle.jp2_palette.specs.Pclr.{depth, sign, B, rowSize}
@@ -25,15 +27,22 @@ outsideLists i =
     16384 <? i .count or length (i .components) <? 13 * i .count or 4294967294 <? length (i .samples)
     or some (λ c. first i c ≠? none and length (i .samples) <? first i c + height i c * width i c) (i .count)
 
--- 29: a palette, mapping or definition list that no reader gives, or that does not lie in the file
+-- 29: a palette that no reader gives, or that does not lie in the file; one of no columns is none
+abbrev pub paletteOutside : List ℕ → Palette → Test
+paletteOutside f p =
+    p .columns ≠? 0 and (p .entries =? 0 or 1024 <? p .entries or 255 <? p .columns or length f <? p .place + p .columns + p .entries * rowSize f p)
+
+-- and a list of mappings, for a palette of so many columns
+abbrev pub mappingsOutside : List ℕ → Span → ℕ → Test
+mappingsOutside f l columns = l .count ≠? 0 and (l .count ≠? columns or length f <? l .place + 4 * l .count)
+
+-- and a list of definitions
+abbrev pub definitionsOutside : List ℕ → Span → Test
+definitionsOutside f l = l .count ≠? 0 and (65535 <? l .count or length f <? l .place + 6 * l .count)
+
 abbrev pub outsideFile : List ℕ → Jp2 → Test
 outsideFile f m =
-    let p = m .lists .pclr in
-    let l = m .lists .cmap in
-    let d = m .lists .cdef in
-    p .columns ≠? 0 and (p .entries =? 0 or 1024 <? p .entries or 255 <? p .columns or length f <? p .place + p .columns + p .entries * rowSize f p)
-    or l .count ≠? 0 and (l .count ≠? p .columns or length f <? l .place + 4 * l .count)
-    or d .count ≠? 0 and (65535 <? d .count or length f <? d .place + 6 * d .count)
+    paletteOutside f (m .lists .pclr) or mappingsOutside f (m .lists .cmap) (m .lists .pclr .columns) or definitionsOutside f (m .lists .cdef)
 
 -- with the ignore flag palette, mappings and definitions count for nothing
 unfoldable pub counted : ℕ → Jp2 → Jp2
@@ -59,23 +68,30 @@ picture f m i =
       samples = packed f m i n;
     }
 
--- with so much room for numbers of records, and for samples
+-- 28 and 30, with so much room for numbers of records, and for samples
+unfoldable pub fitted : List ℕ → Jp2 → Image → ℕ → ℕ → Finishing
+fitted f m i records samples =
+    let n = channels m (i .count) in
+    let blank = lowest (dataless f (m .lists .cmap) i) (m .lists .cmap .count) in
+    let needed = startOf f m i n in
+    table
+    (blank <? m .lists .cmap .count ⇒ declined 28 blank
+    ∣ records <? 13 * n ⇒ declined 30 (13 * n)
+    ∣ 4294967294 <? needed or samples <? needed ⇒ declined 30 needed
+    ∣ otherwise (finished (picture f m i)))
+
+-- 25, 26 and 27 before them
 unfoldable pub coloured : List ℕ → Jp2 → Image → ℕ → ℕ → Finishing
 coloured f m i records samples =
     let n = channels m (i .count) in
-    let wrong = lowest (misnamed f m (i .count)) (m .lists .cdef .count) in
-    let lacking = lowest (undefined f m) n in
-    let astray = lowest (mismapped f m (i .count)) (m .lists .cmap .count) in
-    let blank = lowest (dataless f m i) (m .lists .cmap .count) in
-    let needed = startOf f m i n in
+    let wrong = lowest (misnamed f (m .lists .cdef) n) (m .lists .cdef .count) in
+    let lacking = lowest (undefined f (m .lists .cdef)) n in
+    let astray = lowest (mismapped f (m .lists .cmap) (i .count)) (m .lists .cmap .count) in
     table
     (wrong <? m .lists .cdef .count ⇒ declined 25 wrong
     ∣ lacking <? n ⇒ declined 26 lacking
     ∣ astray <? m .lists .cmap .count ⇒ declined 27 astray
-    ∣ blank <? m .lists .cmap .count ⇒ declined 28 blank
-    ∣ records <? 13 * n ⇒ declined 30 (13 * n)
-    ∣ 4294967294 <? needed or samples <? needed ⇒ declined 30 needed
-    ∣ otherwise (finished (picture f m i)))
+    ∣ otherwise (fitted f m i records samples))
 
 -- the file, the record from reading it, the ignore flag, the picture, and the lengths of the two destinations
 unfoldable pub finish : List ℕ → Jp2 → ℕ → Image → ℕ → ℕ → Finishing

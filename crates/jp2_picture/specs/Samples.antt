@@ -28,9 +28,13 @@ displayed e = table (e <? 2147483648 ⇒ pos e ∣ otherwise (pos e -ℤ pos 429
 unfoldable pub lookup : List ℕ → Palette → ℕ → ℤ → ℤ
 lookup f p i s = displayed (Cji f p (held s (p .entries - 1)) i)
 
--- what channel c makes of a sample of its component, in a picture of n components
+-- what a channel c of a type makes of a sample of its component: with type 1 what column c of the palette gives for it, else the sample itself
+unfoldable pub valueFor : List ℕ → Palette → ℕ → ℕ → ℤ → ℤ
+valueFor f p c typ s = table (typ =? 1 ⇒ lookup f p c s ∣ otherwise s)
+
+-- what channel c makes of it in a picture of n components
 unfoldable pub valueOf : List ℕ → Jp2 → ℕ → ℕ → ℤ → ℤ
-valueOf f m n c s = table (typeOf f m n c =? 1 ⇒ lookup f (m .lists .pclr) c s ∣ otherwise s)
+valueOf f m n c s = valueFor f (m .lists .pclr) c (typeOf f m n c) s
 
 -- the samples of channel c
 unfoldable pub channelSamples : List ℕ → Jp2 → Image → ℕ → List ℤ

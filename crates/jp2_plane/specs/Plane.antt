@@ -7,7 +7,7 @@ use lib.ListN.{length, take, drop, getD}
 use Rattle.jp2_cio.specs.Table.{Test, _=?_, _<?_, _or_, otherwise, _⇒_∣_, table}
 use Rattle.jp2_record.specs.declared.Palette.{Palette}
 use Rattle.jp2_palette.specs.Pclr.{Cji, rowSize}
-use Rattle.jp2_picture.specs.Samples.{held, displayed, lookup}
+use Rattle.jp2_picture.specs.Samples.{held, displayed}
 
 -- the n samples from a place on
 abbrev pub plane : List ℤ → ℕ → ℕ → List ℤ
@@ -42,7 +42,3 @@ column f p i (suc n) = column f p i n ++ (displayed (Cji f p n i) ∷ [])
 -- the entry of a column that a sample picks, the last one standing at a place
 abbrev pub entryFor : List ℤ → ℕ → ℤ → ℤ
 entryFor c last s = getD c (held s last) (pos 0)
-
--- what a channel makes of a sample: with type 1 what its column of the palette has for it, else the sample itself
-unfoldable pub valueFor : List ℕ → Palette → ℕ → ℕ → ℤ → ℤ
-valueFor f p c typ s = table (typ =? 1 ⇒ lookup f p c s ∣ otherwise s)

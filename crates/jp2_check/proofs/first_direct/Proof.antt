@@ -7,13 +7,13 @@ use mathlib.Core.Bool.{false}
 use borrow.Author.Count.{below-more}
 use Rattle.jp2_cio.proofs.Rows.{Says}
 use Rattle.jp2_record.specs.Record.{span}
-use Rattle.jp2_check.specs.Parts.{directAt}
+use Rattle.jp2_picture.specs.Channels.{direct}
 use Rattle.jp2_picture.proofs.Indices.{none-is, lowest-first}
 use Rattle.jp2_check.proofs.first_direct.Statement.{statement}
 use Rattle.jp2_check.proofs.first_direct.Tie as tie
 
 abbrev Inv-loop : tie.InvT-loop
-Inv-loop f place count c₀ c = (1 ≤ c) × ((i : ℕ) → i < c → Says false (directAt f (span place count) i))
+Inv-loop f place count c₀ c = (1 ≤ c) × ((i : ℕ) → i < c → Says false (direct f (span place count) i))
 
 abbrev μ-loop : tie.MeasureT-loop
 μ-loop f place count c₀ c = count - c
@@ -34,7 +34,7 @@ read-u8-requires : tie.Need-read-u8-requires Inv-loop μ-loop
 read-u8-requires c κs = search needs
 
 returns : tie.Need-returns Inv-loop μ-loop
-returns c = let a = c .before .before .before .before .before .args in let l = c .before .before .before .loop in lowest-first (directAt (a .f .now) (a .l)) (l .c) (a .l .count) (l .inv .1) (omega arith) (omega arith)
+returns c = let a = c .before .before .before .before .before .args in let l = c .before .before .before .loop in lowest-first (direct (a .f .now) (a .l)) (l .c) (a .l .count) (l .inv .1) (omega arith) (omega arith)
 
 add-c : tie.Need-add-c Inv-loop μ-loop
 add-c c = omega arith
@@ -43,10 +43,10 @@ loop-less : tie.Need-loop-less Inv-loop μ-loop
 loop-less c = omega arith
 
 loop-again : tie.Need-loop-again Inv-loop μ-loop
-loop-again c = let a = c .before .before .before .before .before .args in let l = c .before .before .before .loop in (omega arith, below-more (λ i. Says false (directAt (a .f .now) (a .l) i)) (l .c) (l .inv .1) (λ p. omega arith))
+loop-again c = let a = c .before .before .before .before .before .args in let l = c .before .before .before .loop in (omega arith, below-more (λ i. Says false (direct (a .f .now) (a .l) i)) (l .c) (l .inv .1) (λ p. omega arith))
 
 returns-2 : tie.Need-returns-2 Inv-loop μ-loop
-returns-2 c = let a = c .before .before .before .args in none-is (directAt (a .f .now) (a .l)) (a .l .count) (λ i h. c .before .loop .inv .1 i (omega arith))
+returns-2 c = let a = c .before .before .before .args in none-is (direct (a .f .now) (a .l)) (a .l .count) (λ i h. c .before .loop .inv .1 i (omega arith))
 
 pub first-direct-spec : {M : Type 1} → statement M
 first-direct-spec =

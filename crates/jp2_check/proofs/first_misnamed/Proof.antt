@@ -6,14 +6,14 @@ use mathlib.Core.Path.{sym, _∙_}
 use mathlib.Core.Bool.{true, false}
 use borrow.Author.Count.{below-more}
 use Rattle.jp2_cio.proofs.Rows.{Says}
-use Rattle.jp2_check.specs.Parts.{misnamedAt}
+use Rattle.jp2_picture.specs.Check.{misnamed}
 use Rattle.jp2_comps.proofs.Answers.{said}
 use Rattle.jp2_picture.proofs.Indices.{none-is, lowest-first}
 use Rattle.jp2_check.proofs.first_misnamed.Statement.{statement}
 use Rattle.jp2_check.proofs.first_misnamed.Tie as tie
 
 abbrev Inv-loop : tie.InvT-loop
-Inv-loop f l k count j₀ j = (j ≤ count) × ((i : ℕ) → i < j → Says false (misnamedAt f l k i))
+Inv-loop f l k count j₀ j = (j ≤ count) × ((i : ℕ) → i < j → Says false (misnamed f l k i))
 
 abbrev μ-loop : tie.MeasureT-loop
 μ-loop f l k count j₀ j = count - j
@@ -25,7 +25,7 @@ is-misnamed-requires : tie.Need-is-misnamed-requires Inv-loop μ-loop
 is-misnamed-requires c κs = omega (arith, c .before .before .before .pre (omega arith))
 
 returns : tie.Need-returns Inv-loop μ-loop
-returns c = let a = c .before .before .before .before .before .args in let l = c .before .before .before .loop in lowest-first (misnamedAt (a .f .now) (a .l) (a .k)) (l .j) (a .l .count) (l .inv .1) (said true (misnamedAt (a .f .now) (a .l) (a .k) (l .j)) (sym (c .if1 .taken) ∙ c .before .is-misnamed .ensures)) (omega arith)
+returns c = let a = c .before .before .before .before .before .args in let l = c .before .before .before .loop in lowest-first (misnamed (a .f .now) (a .l) (a .k)) (l .j) (a .l .count) (l .inv .1) (said true (misnamed (a .f .now) (a .l) (a .k) (l .j)) (sym (c .if1 .taken) ∙ c .before .is-misnamed .ensures)) (omega arith)
 
 add-j : tie.Need-add-j Inv-loop μ-loop
 add-j c = omega arith
@@ -34,10 +34,10 @@ loop-less : tie.Need-loop-less Inv-loop μ-loop
 loop-less c = omega arith
 
 loop-again : tie.Need-loop-again Inv-loop μ-loop
-loop-again c = let a = c .before .before .before .before .before .args in let l = c .before .before .before .loop in (omega arith, below-more (λ i. Says false (misnamedAt (a .f .now) (a .l) (a .k) i)) (l .j) (l .inv .1) (said false (misnamedAt (a .f .now) (a .l) (a .k) (l .j)) (sym (c .if1 .left) ∙ c .before .is-misnamed .ensures)))
+loop-again c = let a = c .before .before .before .before .before .args in let l = c .before .before .before .loop in (omega arith, below-more (λ i. Says false (misnamed (a .f .now) (a .l) (a .k) i)) (l .j) (l .inv .1) (said false (misnamed (a .f .now) (a .l) (a .k) (l .j)) (sym (c .if1 .left) ∙ c .before .is-misnamed .ensures)))
 
 returns-2 : tie.Need-returns-2 Inv-loop μ-loop
-returns-2 c = let a = c .before .before .before .args in none-is (misnamedAt (a .f .now) (a .l) (a .k)) (a .l .count) (λ i h. c .before .loop .inv .1 i (omega arith))
+returns-2 c = let a = c .before .before .before .args in none-is (misnamed (a .f .now) (a .l) (a .k)) (a .l .count) (λ i h. c .before .loop .inv .1 i (omega arith))
 
 pub first-misnamed-spec : {M : Type 1} → statement M
 first-misnamed-spec =

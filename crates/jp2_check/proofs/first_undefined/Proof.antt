@@ -3,14 +3,14 @@
 use native.Mathlib.Omega.{arith}
 use borrow.Author.Needs.{needs}
 use mathlib.Core.Path.{_∙_}
-use Rattle.jp2_check.specs.Parts.{undefinedAt}
+use Rattle.jp2_picture.specs.Check.{undefined}
 use Rattle.jp2_picture.proofs.Indices.{none-is}
 use Rattle.jp2_check.proofs.Marks.{unset, marks-all}
 use Rattle.jp2_check.proofs.first_undefined.Statement.{statement}
 use Rattle.jp2_check.proofs.first_undefined.Tie as tie
 
 returns : tie.Need-returns
-returns c = let a = c .before .before .before .args in none-is (undefinedAt (a .f .now) (a .l)) (a .k) (λ i h. λ p. absurd (p (c .if1 .taken)))
+returns c = let a = c .before .before .before .args in none-is (undefined (a .f .now) (a .l)) (a .k) (λ i h. λ p. absurd (p (c .if1 .taken)))
 
 slice-aggregate-mark-defined : tie.Need-slice-aggregate-mark-defined
 slice-aggregate-mark-defined c = search needs

@@ -2,25 +2,26 @@
 -- Assumes nothing.
 use native.Mathlib.Omega.{arith}
 use mathlib.Core.Bool.{true, false}
-use Rattle.jp2_check.specs.Parts.{correctedAt}
+use Rattle.jp2_cio.specs.Table.{_≠?_, _and_}
+use Rattle.jp2_picture.specs.Channels.{corrected}
 use Rattle.jp2_comps.proofs.Answers.{shown}
 use Rattle.jp2_check.proofs.is_corrected.Statement.{statement}
 use Rattle.jp2_check.proofs.is_corrected.Tie as tie
 
 returns : tie.Need-returns
-returns c = let a = c .before .before .args in shown false (correctedAt (a .f .now) (a .l) (a .n)) (omega arith)
+returns c = let a = c .before .before .args in shown false (a .l .count ≠? 0 and corrected (a .f .now) (a .l) (a .n)) (omega arith)
 
 returns-2 : tie.Need-returns-2
-returns-2 c = let a = c .before .before .before .args in shown false (correctedAt (a .f .now) (a .l) (a .n)) (omega arith)
+returns-2 c = let a = c .before .before .before .args in shown false (a .l .count ≠? 0 and corrected (a .f .now) (a .l) (a .n)) (omega arith)
 
 first-direct-requires : tie.Need-first-direct-requires
 first-direct-requires c κs = c .before .before .before .pre
 
 returns-3 : tie.Need-returns-3
-returns-3 c = let a = c .before .before .before .before .before .args in shown true (correctedAt (a .f .now) (a .l) (a .n)) (omega arith)
+returns-3 c = let a = c .before .before .before .before .before .args in shown true (a .l .count ≠? 0 and corrected (a .f .now) (a .l) (a .n)) (omega arith)
 
 returns-4 : tie.Need-returns-4
-returns-4 c = let a = c .before .before .before .before .before .args in shown false (correctedAt (a .f .now) (a .l) (a .n)) (omega arith)
+returns-4 c = let a = c .before .before .before .before .before .args in shown false (a .l .count ≠? 0 and corrected (a .f .now) (a .l) (a .n)) (omega arith)
 
 pub is-corrected-spec : {M : Type 1} → statement M
 is-corrected-spec =

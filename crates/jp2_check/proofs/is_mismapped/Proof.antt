@@ -4,7 +4,7 @@ use native.Mathlib.Omega.{arith}
 use borrow.Author.Needs.{needs}
 use mathlib.Core.Bool.{true}
 use Rattle.jp2_cio.specs.Table.{_≠?_}
-use Rattle.jp2_check.specs.Parts.{mismappedAt}
+use Rattle.jp2_picture.specs.Check.{mismapped}
 use Rattle.jp2_comps.proofs.Answers.{shown, same}
 use Rattle.jp2_check.proofs.is_mismapped.Statement.{statement}
 use Rattle.jp2_check.proofs.is_mismapped.Tie as tie
@@ -37,16 +37,16 @@ cast-pcol : tie.Need-cast-pcol
 cast-pcol c = search needs
 
 returns : tie.Need-returns
-returns c = let a = c .before .before .before .before .before .before .args in shown true (mismappedAt (a .f .now) (a .l) (a .n) (a .c)) (omega arith)
+returns c = let a = c .before .before .before .before .before .before .args in shown true (mismapped (a .f .now) (a .l) (a .n) (a .c)) (omega arith)
 
 returns-2 : tie.Need-returns-2
-returns-2 c = let a = c .before .before .before .before .before .before .before .args in same (c .before .before .read-u82 .result ≠? 0) (mismappedAt (a .f .now) (a .l) (a .n) (a .c)) (λ h. omega arith) (λ h. (omega arith, λ g. absurd (g (omega arith) (omega arith))))
+returns-2 c = let a = c .before .before .before .before .before .before .before .args in same (c .before .before .read-u82 .result ≠? 0) (mismapped (a .f .now) (a .l) (a .n) (a .c)) (λ h. omega arith) (λ h. (omega arith, λ g. absurd (g (omega arith) (omega arith))))
 
 returns-3 : tie.Need-returns-3
-returns-3 c = let a = c .before .before .before .before .before .before .before .before .args in same (c .before .before .before .read-u82 .result ≠? a .c) (mismappedAt (a .f .now) (a .l) (a .n) (a .c)) (λ h. omega arith) (λ h. (omega arith, λ g. omega arith))
+returns-3 c = let a = c .before .before .before .before .before .before .before .before .args in same (c .before .before .before .read-u82 .result ≠? a .c) (mismapped (a .f .now) (a .l) (a .n) (a .c)) (λ h. omega arith) (λ h. (omega arith, λ g. omega arith))
 
 returns-4 : tie.Need-returns-4
-returns-4 c = let a = c .before .before .before .before .before .before .before .before .args in shown true (mismappedAt (a .f .now) (a .l) (a .n) (a .c)) (omega arith)
+returns-4 c = let a = c .before .before .before .before .before .before .before .before .args in shown true (mismapped (a .f .now) (a .l) (a .n) (a .c)) (omega arith)
 
 pub is-mismapped-spec : {M : Type 1} → statement M
 is-mismapped-spec =

@@ -3,7 +3,7 @@
 use native.Mathlib.Omega.{arith}
 use borrow.Author.Needs.{needs}
 use mathlib.Core.Bool.{true, false}
-use Rattle.jp2_check.specs.Parts.{misnamedAt}
+use Rattle.jp2_picture.specs.Check.{misnamed}
 use Rattle.jp2_comps.proofs.Answers.{shown}
 use Rattle.jp2_check.proofs.is_misnamed.Statement.{statement}
 use Rattle.jp2_check.proofs.is_misnamed.Tie as tie
@@ -30,19 +30,19 @@ cast-asoc : tie.Need-cast-asoc
 cast-asoc c = search needs
 
 returns : tie.Need-returns
-returns c = let a = c .before .before .before .before .before .args in shown true (misnamedAt (a .f .now) (a .l) (a .k) (a .j)) (omega arith)
+returns c = let a = c .before .before .before .before .before .args in shown true (misnamed (a .f .now) (a .l) (a .k) (a .j)) (omega arith)
 
 returns-2 : tie.Need-returns-2
-returns-2 c = let a = c .before .before .before .before .before .before .args in shown false (misnamedAt (a .f .now) (a .l) (a .k) (a .j)) (omega arith)
+returns-2 c = let a = c .before .before .before .before .before .before .args in shown false (misnamed (a .f .now) (a .l) (a .k) (a .j)) (omega arith)
 
 returns-3 : tie.Need-returns-3
-returns-3 c = let a = c .before .before .before .before .before .before .before .args in shown false (misnamedAt (a .f .now) (a .l) (a .k) (a .j)) (omega arith)
+returns-3 c = let a = c .before .before .before .before .before .before .before .args in shown false (misnamed (a .f .now) (a .l) (a .k) (a .j)) (omega arith)
 
 returns-4 : tie.Need-returns-4
-returns-4 c = let a = c .before .before .before .before .before .before .before .before .args in shown true (misnamedAt (a .f .now) (a .l) (a .k) (a .j)) (omega arith)
+returns-4 c = let a = c .before .before .before .before .before .before .before .before .args in shown true (misnamed (a .f .now) (a .l) (a .k) (a .j)) (omega arith)
 
 returns-5 : tie.Need-returns-5
-returns-5 c = let a = c .before .before .before .before .before .before .before .before .args in shown false (misnamedAt (a .f .now) (a .l) (a .k) (a .j)) (omega arith)
+returns-5 c = let a = c .before .before .before .before .before .before .before .before .args in shown false (misnamed (a .f .now) (a .l) (a .k) (a .j)) (omega arith)
 
 pub is-misnamed-spec : {M : Type 1} → statement M
 is-misnamed-spec =

@@ -7,7 +7,7 @@ use mathlib.Core.Path.{_∙_}
 use mathlib.Core.Bool.{true, false}
 use lib.ListN.{length}
 use Rattle.jp2_cio.specs.Table.{_<?_}
-use Rattle.jp2_check.specs.Parts.{mappingsOutside}
+use Rattle.jp2_picture.specs.Finish.{mappingsOutside}
 use Rattle.jp2_comps.proofs.Answers.{shown, same}
 use Rattle.jp2_check.proofs.mappings_outside.Statement.{statement}
 use Rattle.jp2_check.proofs.mappings_outside.Tie as tie

@@ -2,7 +2,7 @@
 -- Assumes nothing.
 use borrow.Author.Needs.{needs}
 use Rattle.jp2_cio.specs.Table.{_or_}
-use Rattle.jp2_check.specs.Parts.{paletteOutside, mappingsOutside, definitionsOutside}
+use Rattle.jp2_picture.specs.Finish.{paletteOutside, mappingsOutside, definitionsOutside}
 use Rattle.jp2_comps.proofs.Answers.{or-taken, or-left}
 use Rattle.jp2_check.proofs.outside_file.Statement.{statement}
 use Rattle.jp2_check.proofs.outside_file.Tie as tie

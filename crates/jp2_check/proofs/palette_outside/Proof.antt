@@ -8,7 +8,7 @@ use mathlib.Core.Bool.{true, false}
 use lib.ListN.{length}
 use Rattle.jp2_cio.specs.Table.{_<?_}
 use Rattle.jp2_palette.proofs.Entries.{rows-most}
-use Rattle.jp2_check.specs.Parts.{paletteOutside}
+use Rattle.jp2_picture.specs.Finish.{paletteOutside}
 use Rattle.jp2_comps.proofs.Answers.{shown, same}
 use Rattle.jp2_check.proofs.Columns.{rows-file}
 use Rattle.jp2_check.proofs.palette_outside.Statement.{statement}

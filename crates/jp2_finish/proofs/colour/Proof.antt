@@ -5,7 +5,7 @@ use borrow.Author.Needs.{needs}
 use mathlib.Core.Path.{sym, _∙_}
 use lib.ListN.{length}
 use Rattle.jp2_picture.specs.Image.{image}
-use Rattle.jp2_finish.specs.Parts.{room}
+use Rattle.jp2_picture.specs.Finish.{fitted}
 use Rattle.jp2_finish.proofs.Rooms.{channels-most, planes-are}
 use Rattle.jp2_finish.proofs.Colours.{refused-done, definitions-few, long-enough, finished-done}
 use Rattle.jp2_finish.proofs.colour.Statement.{statement}
@@ -39,7 +39,7 @@ order-requires c κs =
     )
 
 returns : tie.Need-returns
-returns c = let a = c .before .before .before .before .before .before .before .args in refused-done (room (a .f .now) (a .m) (image (a .comps .now) (a .count) (a .samples .now)) (length (a .records .now)) (length (a .planes .now))) (a .records .now) (a .planes .now) (c .before .before .before .room .ensures) (c .before .number .given .1)
+returns c = let a = c .before .before .before .before .before .before .before .args in refused-done (fitted (a .f .now) (a .m) (image (a .comps .now) (a .count) (a .samples .now)) (length (a .records .now)) (length (a .planes .now))) (a .records .now) (a .planes .now) (c .before .before .before .room .ensures) (c .before .number .given .1)
 
 same-length : tie.Need-same-length
 same-length c = search needs
@@ -52,7 +52,7 @@ returns-2 c =
     let a = c .before .before .before .before .before .before .before .before .before .before .before .before .before .before .before .before .before .args in
     let y = planes-are (a .f .now) (a .m) (a .comps .now) (a .count) (a .samples .now) (length (a .records .now)) (length (a .planes .now)) (sym (c .before .before .before .before .before .before .before .before .before .before .before .n .given .1) ∙ c .before .before .before .before .before .before .before .before .before .before .before .before .before .room .ensures) in
     let p = c .before .before .before .before .before .before .before .opj-jp2-apply-pclr .ensures in
-    finished-done (a .f .now) (a .m) (image (a .comps .now) (a .count) (a .samples .now)) (room (a .f .now) (a .m) (image (a .comps .now) (a .count) (a .samples .now)) (length (a .records .now)) (length (a .planes .now))) (y .0) (y .1 .all) (p .0) (c .before .before .order .ensures) (p .1)
+    finished-done (a .f .now) (a .m) (image (a .comps .now) (a .count) (a .samples .now)) (fitted (a .f .now) (a .m) (image (a .comps .now) (a .count) (a .samples .now)) (length (a .records .now)) (length (a .planes .now))) (y .0) (y .1 .all) (p .0) (c .before .before .order .ensures) (p .1)
 
 pub colour-spec : {M : Type 1} → statement M
 colour-spec =

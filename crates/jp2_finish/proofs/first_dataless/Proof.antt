@@ -27,7 +27,7 @@ shows : (f : List ℕ) (l : Span) (comps : List ℕ) (c : ℕ) {r v : ℕ} → (
 shows f l comps c h e d = d ∙ ap (first (listed comps)) (e ∙ sym (named f l c h))
 
 abbrev Inv-loop : tie.InvT-loop
-Inv-loop f l comps count c₀ c = (c ≤ count) × ((i : ℕ) → i < c → Says false (dataless f (mappings l) (listed comps) i))
+Inv-loop f l comps count c₀ c = (c ≤ count) × ((i : ℕ) → i < c → Says false (dataless f l (listed comps) i))
 
 abbrev μ-loop : tie.MeasureT-loop
 μ-loop f l comps count c₀ c = count - c
@@ -49,7 +49,7 @@ returns c =
     let a = c .before .before .before .before .before .before .before .args in
     let l = c .before .before .before .before .loop in
     let e = shows (a .f .now) (a .l) (a .comps .now) (l .c) (omega arith) (c .before .before .component-of .ensures) (c .before .component .ensures) in
-    lowest-first (dataless (a .f .now) (mappings (a .l)) (listed (a .comps .now))) (l .c) (a .l .count) (l .inv .1) (omega (arith, e)) (omega arith)
+    lowest-first (dataless (a .f .now) (a .l) (listed (a .comps .now))) (l .c) (a .l .count) (l .inv .1) (omega (arith, e)) (omega arith)
 
 add-c : tie.Need-add-c Inv-loop μ-loop
 add-c c = omega arith
@@ -62,10 +62,10 @@ loop-again c =
     let a = c .before .before .before .before .before .before .before .args in
     let l = c .before .before .before .before .loop in
     let e = shows (a .f .now) (a .l) (a .comps .now) (l .c) (omega arith) (c .before .before .component-of .ensures) (c .before .component .ensures) in
-    (omega arith, below-more (λ i. Says false (dataless (a .f .now) (mappings (a .l)) (listed (a .comps .now)) i)) (l .c) (l .inv .1) (λ z. omega (arith, e)))
+    (omega arith, below-more (λ i. Says false (dataless (a .f .now) (a .l) (listed (a .comps .now)) i)) (l .c) (l .inv .1) (λ z. omega (arith, e)))
 
 returns-2 : tie.Need-returns-2 Inv-loop μ-loop
-returns-2 c = let a = c .before .before .before .before .args in none-is (dataless (a .f .now) (mappings (a .l)) (listed (a .comps .now))) (a .l .count) (λ i h. c .before .loop .inv .1 i (omega arith))
+returns-2 c = let a = c .before .before .before .before .args in none-is (dataless (a .f .now) (a .l) (listed (a .comps .now))) (a .l .count) (λ i h. c .before .loop .inv .1 i (omega arith))
 
 pub first-dataless-spec : {M : Type 1} → statement M
 first-dataless-spec =

@@ -8,7 +8,8 @@ use mathlib.Core.Bool.{false}
 use mathlib.Core.List.{List, map}
 use lib.IntN.{ℤ}
 use Rattle.jp2_cio.proofs.Rows.{Says}
-use Rattle.jp2_plane.specs.Plane.{plane, placed, valueFor}
+use Rattle.jp2_picture.specs.Samples.{valueFor}
+use Rattle.jp2_plane.specs.Plane.{plane, placed}
 use Rattle.jp2_comps.proofs.Planes.{size-none}
 use Rattle.jp2_finish.proofs.Packing.{placed-where, placed-blank}
 use Rattle.jp2_finish.proofs.pack_samples.Statement.{statement}
