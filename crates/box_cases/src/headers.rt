@@ -3,8 +3,8 @@ use crate::kinds;
 use crate::numbers::FAR;
 use crate::say;
 use jp2_box::Jp2BoxHeader;
-use jp2_box::Jp2BoxType;
 use jp2_box::ReadHeader;
+use jp2_kind::Jp2BoxType;
 
 const MOST: u32 = 0xffffffff;
 

@@ -3,7 +3,7 @@ ghost use Prim.Native.Nat.{_≤_};
 ghost use mathlib.Core.Path.{_≡_};
 ghost use lib.ListN.{length};
 use crate::say;
-use jp2_box::Jp2BoxType;
+use jp2_kind::Jp2BoxType;
 
 // The 19 kinds that have a name, then numbers of none: 0x75756964 is the standard's UUID.
 const NUMBERS: [u32; 28] = [

@@ -9,10 +9,10 @@ use denote.Enum.Declared.{tagOf}
 use lib.ListN.{length}
 use Rattle.jp2_cio.specs.Number.{number}
 use Rattle.jp2_box.specs.Box.{LBox, headerLength, boxLength, headerOf, header, childHeader}
-use Rattle.jp2_box.specs.declared.header.Jp2BoxHeader.{Jp2BoxHeader}
-use Rattle.jp2_box.specs.declared.header.ReadHeader.{ReadHeader}
-use Rattle.jp2_box.specs.declared.header.ReadHeader.the-variants.{Header, NoBytes, Cut, HighWord, LengthZero}
-use Rattle.jp2_box.proofs.header.ReadHeader.{the-type}
+use Rattle.jp2_box.specs.declared.Jp2BoxHeader.{Jp2BoxHeader}
+use Rattle.jp2_box.specs.declared.ReadHeader.{ReadHeader}
+use Rattle.jp2_box.specs.declared.ReadHeader.the-variants.{Header, NoBytes, Cut, HighWord, LengthZero}
+use Rattle.jp2_box.proofs.ReadHeader.{the-type}
 use Rattle.jp2_cio.proofs.Rows.{row, each}
 
 module _ (c : List ℕ) where

@@ -5,11 +5,11 @@ use mathlib.Core.List.{List, _++_}
 use lib.ListN.{length}
 use Rattle.jp2_cio.specs.Table.{Test, _=?_, _<?_, Rows, otherwise, _⇒_∣_, table}
 use Rattle.jp2_cio.specs.Number.{number, bytes, placed}
-use Rattle.jp2_box.specs.Kind.{kindOf, numberOf}
-use Rattle.jp2_box.specs.declared.consts.Jp2BoxType.{Jp2BoxType}
-use Rattle.jp2_box.specs.declared.header.Jp2BoxHeader.{Jp2BoxHeader}
-use Rattle.jp2_box.specs.declared.header.ReadHeader.{ReadHeader}
-use Rattle.jp2_box.specs.declared.header.ReadHeader.the-variants.{Header, NoBytes, Cut, HighWord, LengthZero}
+use Rattle.jp2_kind.specs.Kind.{kindOf, numberOf}
+use Rattle.jp2_kind.specs.declared.Jp2BoxType.{Jp2BoxType}
+use Rattle.jp2_box.specs.declared.Jp2BoxHeader.{Jp2BoxHeader}
+use Rattle.jp2_box.specs.declared.ReadHeader.{ReadHeader}
+use Rattle.jp2_box.specs.declared.ReadHeader.the-variants.{Header, NoBytes, Cut, HighWord, LengthZero}
 
 abbrev pub LBox : List ℕ → ℕ
 LBox c = number c 0 4

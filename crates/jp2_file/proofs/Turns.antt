@@ -13,13 +13,13 @@ use lib.ListN.{length, drop, length-drop}
 use Rattle.jp2_cio.specs.Number.{part}
 use Rattle.jp2_cio.specs.Table.{table}
 use Rattle.jp2_cio.proofs.Rows.{row, each, either, true-false}
-use Rattle.jp2_box.specs.Kind.{kindOf, numberOf, isFileHeader, isImageHeader}
-use Rattle.jp2_box.specs.declared.header.Jp2BoxHeader.{Jp2BoxHeader}
+use Rattle.jp2_kind.specs.Kind.{kindOf, numberOf, isFileHeader, isImageHeader}
+use Rattle.jp2_box.specs.declared.Jp2BoxHeader.{Jp2BoxHeader}
 use Rattle.jp2_box.specs.Box.{LBox, TBox, headerLength, boxLength, headerOf}
-use Rattle.jp2_box.specs.declared.consts.Jp2BoxType.{Jp2BoxType}
-use Rattle.jp2_box.proofs.consts.Jp2BoxType.{the-type}
-use Rattle.jp2_box.specs.declared.consts.Jp2BoxType.the-variants.{None, JPIP, JP, FTYP, JP2H, IHDR, COLR, JP2C, URL, PCLR, CMAP, CDEF, DTBL, BPCC, JP2, RES, JP2I, XML, UUID, UINF, Unknown}
-use Rattle.jp2_box.proofs.KindNumbers.{kinds-and-numbers, is-kind, not-kind}
+use Rattle.jp2_kind.specs.declared.Jp2BoxType.{Jp2BoxType}
+use Rattle.jp2_kind.proofs.Jp2BoxType.{the-type}
+use Rattle.jp2_kind.specs.declared.Jp2BoxType.the-variants.{None, JPIP, JP, FTYP, JP2H, IHDR, COLR, JP2C, URL, PCLR, CMAP, CDEF, DTBL, BPCC, JP2, RES, JP2I, XML, UUID, UINF, Unknown}
+use Rattle.jp2_kind.proofs.KindNumbers.{kinds-and-numbers, is-kind, not-kind}
 use Rattle.jp2_box.proofs.Headers.{box-all}
 use Rattle.jp2_record.specs.declared.Jp2.{Jp2}
 use Rattle.jp2_record.specs.State.{headerBit}

@@ -8,7 +8,7 @@ use lib.ListN.{length, take, drop, length-drop}
 use lib.Seq.{take-all}
 use Rattle.jp2_cio.proofs.Rows.{row}
 use Rattle.jp2_box.proofs.Headers.{header-least}
-use Rattle.jp2_box.specs.declared.header.Jp2BoxHeader.{Jp2BoxHeader}
+use Rattle.jp2_box.specs.declared.Jp2BoxHeader.{Jp2BoxHeader}
 use Rattle.jp2_record.specs.declared.Jp2.{Jp2}
 use Rattle.jp2_record.specs.declared.Outcome.{Outcome}
 use Rattle.jp2_record.specs.declared.Answer.the-variants.{Done, Refused}

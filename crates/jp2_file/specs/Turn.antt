@@ -4,10 +4,10 @@ use mathlib.Core.Path.{_≡_}
 use mathlib.Core.List.{List, []}
 use lib.ListN.{length}
 use Rattle.jp2_cio.specs.Table.{Test, _=?_, _<?_, flag, _or_, _and_, Rows, otherwise, _⇒_∣_, table}
-use Rattle.jp2_box.specs.Kind.{kindOf, isFileHeader, isImageHeader}
+use Rattle.jp2_kind.specs.Kind.{kindOf, isFileHeader, isImageHeader}
 use Rattle.jp2_box.specs.Box.{TBox, headerLength, boxLength, headerOf}
-use Rattle.jp2_box.specs.declared.consts.Jp2BoxType.{Jp2BoxType}
-use Rattle.jp2_box.specs.declared.header.Jp2BoxHeader.{Jp2BoxHeader}
+use Rattle.jp2_kind.specs.declared.Jp2BoxType.{Jp2BoxType}
+use Rattle.jp2_box.specs.declared.Jp2BoxHeader.{Jp2BoxHeader}
 use Rattle.jp2_record.specs.declared.Jp2.{Jp2}
 use Rattle.jp2_record.specs.State.{withUnknown}
 use Rattle.jp2_record.specs.Answer.{Result, accepted}

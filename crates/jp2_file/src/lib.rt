@@ -3,7 +3,7 @@ ghost use Prim.Native.Nat.{_+_, _≤_};
 ghost use mathlib.Core.Path.{_≡_};
 ghost use lib.ListN.{length};
 ghost use Rattle.jp2_cio.specs.Table.{holds};
-ghost use Rattle.jp2_box.specs.Kind.{kindOf, numberOf};
+ghost use Rattle.jp2_kind.specs.Kind.{kindOf, numberOf};
 ghost use Rattle.jp2_record.specs.Record.{blank};
 ghost use Rattle.jp2_record.specs.State.{withBit, unknown, withUnknown};
 ghost use Rattle.jp2_record.specs.Answer.{accepted, answer};
@@ -11,8 +11,8 @@ ghost use Rattle.jp2_file.specs.File.{ended, turnedDown, stream, other, 
 ghost use Rattle.jp2_file.specs.Turn.{found, Heads, box, boxAt, isRead, isEarly, inner, pastKind};
 ghost use Rattle.jp2_walk.specs.Split.{firstBox};
 use jp2_box::Jp2BoxHeader;
-use jp2_box::Jp2BoxType;
 use jp2_box::ReadHeader;
+use jp2_kind::Jp2BoxType;
 use jp2_record::Answer;
 use jp2_record::Jp2;
 use jp2_record::Outcome;

@@ -6,7 +6,7 @@ use mathlib.Core.List.{List, [], _∷_, _++_}
 use lib.Dec.{eqb}
 use Rattle.jp2_cio.specs.Number.{number, part}
 use Rattle.jp2_cio.specs.Table.{table}
-use Rattle.jp2_box.specs.Kind.{kindOf}
+use Rattle.jp2_kind.specs.Kind.{kindOf}
 use Rattle.jp2_box.specs.Box.{headerLength, boxLength}
 use Rattle.jp2_record.specs.State.{withBit}
 use Rattle.jp2_signature.specs.Signature.{signature}

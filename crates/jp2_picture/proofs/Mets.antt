@@ -7,7 +7,7 @@ use native.Mathlib.Omega.{arith}
 use lib.ListN.{getD}
 use Rattle.jp2_cio.specs.Number.{number, part}
 use Rattle.jp2_cio.specs.Table.{table}
-use Rattle.jp2_box.specs.Kind.{kindOf}
+use Rattle.jp2_kind.specs.Kind.{kindOf}
 use Rattle.jp2_box.specs.Box.{headerLength, boxLength}
 use Rattle.jp2_record.specs.declared.Jp2.{Jp2}
 use Rattle.jp2_record.specs.Record.{span, blank}

@@ -6,7 +6,7 @@ use lib.IntN.{ℤ, pos, negsuc}
 use lib.ListN.{length, replicate}
 use Rattle.jp2_cio.specs.Number.{number, part, bytes}
 use Rattle.jp2_cio.specs.Table.{table}
-use Rattle.jp2_box.specs.Kind.{kindOf}
+use Rattle.jp2_kind.specs.Kind.{kindOf}
 use Rattle.jp2_box.specs.Box.{headerLength, boxLength}
 use Rattle.jp2_record.specs.State.{withBit}
 use Rattle.jp2_record.specs.Answer.{Result, accepted, refused}

@@ -6,8 +6,8 @@ use mathlib.Core.List.{List}
 use native.Mathlib.Omega.{arith}
 use lib.ListN.{length}
 use Rattle.jp2_cio.proofs.Rows.{each}
-use Rattle.jp2_box.specs.declared.consts.Jp2BoxType.{Jp2BoxType}
-use Rattle.jp2_box.specs.declared.consts.Jp2BoxType.the-variants.{None, JPIP, JP, FTYP, JP2H, IHDR, COLR, JP2C, URL, PCLR, CMAP, CDEF, DTBL, BPCC, JP2, RES, JP2I, XML, UUID, UINF, Unknown}
+use Rattle.jp2_kind.specs.declared.Jp2BoxType.{Jp2BoxType}
+use Rattle.jp2_kind.specs.declared.Jp2BoxType.the-variants.{None, JPIP, JP, FTYP, JP2H, IHDR, COLR, JP2C, URL, PCLR, CMAP, CDEF, DTBL, BPCC, JP2, RES, JP2I, XML, UUID, UINF, Unknown}
 use Rattle.jp2_record.specs.declared.Lab.{Lab}
 use Rattle.jp2_record.specs.declared.Jp2.{Jp2}
 use Rattle.jp2_record.specs.Answer.{Result, refused}

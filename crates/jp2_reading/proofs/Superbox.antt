@@ -9,7 +9,7 @@ use lib.Dec.{eqb}
 use lib.ListN.{length}
 use Rattle.jp2_cio.specs.Table.{_=?_, flag, otherwise, _⇒_∣_, table}
 use Rattle.jp2_cio.proofs.Rows.{each}
-use Rattle.jp2_box.specs.Kind.{kindOf}
+use Rattle.jp2_kind.specs.Kind.{kindOf}
 use Rattle.jp2_box.specs.Box.{LBox, TBox, headerLength, boxLength}
 use Rattle.jp2_box.proofs.Headers.{header-least}
 use Rattle.jp2_record.specs.declared.Jp2.{Jp2}

@@ -7,7 +7,7 @@ use mathlib.Core.List.{List}
 use native.Mathlib.Omega.{arith}
 use lib.ListN.{length}
 use Rattle.jp2_cio.proofs.Rows.{Says, row, each}
-use Rattle.jp2_box.specs.Kind.{kindOf}
+use Rattle.jp2_kind.specs.Kind.{kindOf}
 use Rattle.jp2_box.specs.Box.{LBox, TBox, headerLength, boxLength}
 use Rattle.jp2_box.proofs.Headers.{header-least, box-all}
 use Rattle.jp2_record.specs.declared.Jp2.{Jp2}

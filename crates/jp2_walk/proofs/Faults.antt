@@ -7,7 +7,7 @@ use mathlib.Core.List.{List}
 use lib.ListN.{length, drop}
 use Rattle.jp2_cio.proofs.Rows.{row, each}
 use Rattle.jp2_box.specs.Box.{LBox, headerLength, boxLength, headerOf}
-use Rattle.jp2_box.specs.declared.header.Jp2BoxHeader.{Jp2BoxHeader}
+use Rattle.jp2_box.specs.declared.Jp2BoxHeader.{Jp2BoxHeader}
 use Rattle.jp2_record.specs.declared.Jp2.{Jp2}
 use Rattle.jp2_record.specs.Answer.{refused}
 use Rattle.jp2_walk.specs.Split.{Boxes, noBytes, _▸_, firstBox, split}

@@ -11,11 +11,11 @@ use lib.Seq.{take-all}
 use Rattle.jp2_cio.specs.Number.{part}
 use Rattle.jp2_cio.specs.Table.{pick}
 use Rattle.jp2_cio.proofs.Rows.{true-false}
-use Rattle.jp2_box.specs.Kind.{kindOf, numberOf}
+use Rattle.jp2_kind.specs.Kind.{kindOf, numberOf}
 use Rattle.jp2_box.specs.Box.{TBox, boxLength}
-use Rattle.jp2_box.specs.declared.consts.Jp2BoxType.{Jp2BoxType}
+use Rattle.jp2_kind.specs.declared.Jp2BoxType.{Jp2BoxType}
 use Rattle.jp2_box.proofs.Headers.{header-least}
-use Rattle.jp2_box.proofs.KindNumbers.{is-kind, proper-kind}
+use Rattle.jp2_kind.proofs.KindNumbers.{is-kind, proper-kind}
 use Rattle.jp2_record.specs.declared.Jp2.{Jp2}
 use Rattle.jp2_record.specs.declared.Outcome.{Outcome}
 use Rattle.jp2_record.specs.declared.Answer.the-variants.{Done, Refused}

@@ -10,11 +10,11 @@ use types.Run.{OneOf, miss}
 use denote.Enum.Declared.{tagOf}
 use Rattle.jp2_cio.specs.Table.{table}
 use Rattle.jp2_cio.proofs.Rows.{either}
-use Rattle.jp2_box.specs.Kind.{kindOf, numberOf}
-use Rattle.jp2_box.specs.declared.consts.Jp2BoxType.{Jp2BoxType}
-use Rattle.jp2_box.specs.declared.consts.Jp2BoxType.the-variants.{None, JPIP, JP, FTYP, JP2H, IHDR, COLR, JP2C, URL, PCLR, CMAP, CDEF, DTBL, BPCC, JP2, RES, JP2I, XML, UUID, UINF, Unknown}
-use Rattle.jp2_box.proofs.consts.Jp2BoxType.{the-type}
-use Rattle.jp2_box.proofs.KindNumbers.{not-kind}
+use Rattle.jp2_kind.specs.Kind.{kindOf, numberOf}
+use Rattle.jp2_kind.specs.declared.Jp2BoxType.{Jp2BoxType}
+use Rattle.jp2_kind.specs.declared.Jp2BoxType.the-variants.{None, JPIP, JP, FTYP, JP2H, IHDR, COLR, JP2C, URL, PCLR, CMAP, CDEF, DTBL, BPCC, JP2, RES, JP2I, XML, UUID, UINF, Unknown}
+use Rattle.jp2_kind.proofs.Jp2BoxType.{the-type}
+use Rattle.jp2_kind.proofs.KindNumbers.{not-kind}
 use Rattle.jp2_record.specs.declared.Jp2.{Jp2}
 use Rattle.jp2_record.specs.declared.Outcome.{Outcome}
 use Rattle.jp2_record.specs.Answer.{answer}

@@ -7,9 +7,9 @@ use mathlib.Core.Bool.{Bool, true, false, not, _&&_}
 use mathlib.Core.List.{List}
 use lib.ListN.{length}
 use Rattle.jp2_cio.proofs.Rows.{row, each, true-false}
-use Rattle.jp2_box.specs.Kind.{isImageHeader}
-use Rattle.jp2_box.specs.declared.consts.Jp2BoxType.{Jp2BoxType}
-use Rattle.jp2_box.specs.declared.consts.Jp2BoxType.the-variants.{JP2H}
+use Rattle.jp2_kind.specs.Kind.{isImageHeader}
+use Rattle.jp2_kind.specs.declared.Jp2BoxType.{Jp2BoxType}
+use Rattle.jp2_kind.specs.declared.Jp2BoxType.the-variants.{JP2H}
 use Rattle.jp2_record.specs.declared.Jp2.{Jp2}
 use Rattle.jp2_record.specs.Record.{withStatus, withImgstate}
 use Rattle.jp2_record.specs.State.{fileTypeBit}

@@ -3,8 +3,8 @@ use Prim.Native.Nat.{ℕ, _+_}
 use mathlib.Core.List.{List}
 use lib.ListN.{length}
 use Rattle.jp2_cio.specs.Table.{Test, _<?_, flag, Rows, otherwise, _⇒_∣_, table}
-use Rattle.jp2_box.specs.Kind.{isImageHeader}
-use Rattle.jp2_box.specs.declared.consts.Jp2BoxType.{Jp2BoxType}
+use Rattle.jp2_kind.specs.Kind.{isImageHeader}
+use Rattle.jp2_kind.specs.declared.Jp2BoxType.{Jp2BoxType}
 use Rattle.jp2_record.specs.declared.Jp2.{Jp2}
 use Rattle.jp2_record.specs.Answer.{Result, refused}
 use Rattle.jp2_walk.specs.Child.{reader}

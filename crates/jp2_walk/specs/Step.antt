@@ -5,9 +5,9 @@ use mathlib.Core.List.{List}
 use lib.ListN.{length}
 use Rattle.jp2_cio.specs.Number.{part}
 use Rattle.jp2_cio.specs.Table.{Test, _=?_, _≠?_, _<?_, flag, _or_, Rows, otherwise, _⇒_∣_, table}
-use Rattle.jp2_box.specs.Kind.{kindOf}
+use Rattle.jp2_kind.specs.Kind.{kindOf}
 use Rattle.jp2_box.specs.Box.{LBox, TBox, headerLength, boxLength}
-use Rattle.jp2_box.specs.declared.consts.Jp2BoxType.{Jp2BoxType}
+use Rattle.jp2_kind.specs.declared.Jp2BoxType.{Jp2BoxType}
 use Rattle.jp2_record.specs.declared.Jp2.{Jp2}
 use Rattle.jp2_record.specs.declared.Status.{Status}
 use Rattle.jp2_record.specs.Record.{status}

@@ -9,8 +9,8 @@ use Rattle.jp2_cio.specs.Number.{number, bytes}
 use Rattle.jp2_cio.specs.Table.{table}
 use Rattle.jp2_cio.proofs.Rows.{row}
 use Rattle.jp2_cio.proofs.Bytes.{length-bytes}
-use Rattle.jp2_box.specs.Kind.{kindOf}
-use Rattle.jp2_box.specs.declared.consts.Jp2BoxType.the-variants.{IHDR, BPCC, COLR, CDEF}
+use Rattle.jp2_kind.specs.Kind.{kindOf}
+use Rattle.jp2_kind.specs.declared.Jp2BoxType.the-variants.{IHDR, BPCC, COLR, CDEF}
 use Rattle.jp2_record.specs.declared.Image.{Image}
 use Rattle.jp2_record.specs.declared.Colour.{Colour}
 use Rattle.jp2_record.specs.declared.Jp2.{Jp2}

@@ -3,8 +3,8 @@
 use native.Mathlib.Omega.{arith}
 use mathlib.Core.Path.{refl, ap}
 use Rattle.jp2_cio.proofs.Rows.{row}
-use Rattle.jp2_box.specs.declared.header.Jp2BoxHeader.{Jp2BoxHeader}
-use Rattle.jp2_box.proofs.KindNumbers.{is-kind}
+use Rattle.jp2_box.specs.declared.Jp2BoxHeader.{Jp2BoxHeader}
+use Rattle.jp2_kind.proofs.KindNumbers.{is-kind}
 use Rattle.jp2_box.proofs.Headers.{header-found, header-missing}
 use Rattle.jp2_file.specs.declared.Found.the-variants.{Codestream, Past, Whole}
 use Rattle.jp2_file.specs.Turn.{found}

@@ -3,7 +3,7 @@
 use native.Mathlib.Omega.{arith}
 use mathlib.Core.Path.{refl, ap, _∙_}
 use Rattle.jp2_cio.proofs.Rows.{row}
-use Rattle.jp2_box.specs.Kind.{numberOf}
+use Rattle.jp2_kind.specs.Kind.{numberOf}
 use Rattle.jp2_record.proofs.Told.{told}
 use Rattle.jp2_file.specs.File.{outer}
 use Rattle.jp2_file.specs.Turn.{inner}

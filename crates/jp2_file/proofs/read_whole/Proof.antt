@@ -4,7 +4,7 @@ use native.Mathlib.Omega.{arith}
 use mathlib.Core.Path.{ap, _∙_}
 use Rattle.jp2_cio.proofs.Numbers.{part-most}
 use Rattle.jp2_box.specs.Box.{TBox}
-use Rattle.jp2_box.proofs.KindNumbers.{proper-kind}
+use Rattle.jp2_kind.proofs.KindNumbers.{proper-kind}
 use Rattle.jp2_record.specs.Answer.{answer}
 use Rattle.jp2_walk.specs.Split.{Box}
 use Rattle.jp2_file.specs.File.{outer}
