@@ -1,0 +1,14 @@
+-- What the private functions put: a letter of a shape, and whether it is a mark.
+use Prim.Native.Nat.{ℕ}
+use mathlib.Core.List.{List, [], _∷_}
+use Rattle.jp2_cio.specs.Table.{_=?_, Rows, otherwise, _⇒_∣_, table}
+use Rattle.jp2_text.specs.Text.{decimal}
+
+-- a letter of a shape, where some numbers are left
+unfoldable pub letter : ℕ → List ℕ → List ℕ
+letter b [] = b ∷ []
+letter b (n ∷ numbers) = table (b =? 35 ⇒ decimal n ∣ otherwise (b ∷ []))
+
+-- 1 for the same byte, 0 for another
+unfoldable pub marks : ℕ → ℕ → ℕ
+marks b c = table (b =? c ⇒ 1 ∣ otherwise 0)

@@ -1,0 +1,143 @@
+// Text that is put together in a list that is lent, d. A function is given the place where the text goes, and answers the place after it.
+// What has no room in d is left out, so that nothing here can fail.
+ghost use Prim.Native.Nat.{_+_, _≤_};
+ghost use mathlib.Core.Path.{_≡_};
+ghost use mathlib.Core.List.{[], _∷_, _++_};
+ghost use lib.ListN.{length, drop};
+ghost use Rattle.jp2_text.specs.Text.{put, after, decimal, filled, behind, joined, line};
+ghost use Rattle.jp2_text.specs.Parts.{letter, marks};
+
+mod quoting;
+mod utf8;
+
+pub use quoting::quote;
+pub use utf8::character;
+
+fn byte(d: &mut [u8], at: usize, b: u8) -> usize
+    ensures { λ r. ⌜ (r ≡ after (now (d .entry)) at (b ∷ [])) × (now (d .exit) ≡ put (now (d .entry)) at (b ∷ [])) ⌝ }
+{
+    if d.len() <= at {
+        return at;
+    }
+    d[at] = b;
+    at + 1
+}
+
+// A text as it is.
+pub fn text(d: &mut [u8], at: usize, s: &[u8]) -> usize
+    ensures { λ r. ⌜ (r ≡ after (now (d .entry)) at (now (s .entry))) × (now (d .exit) ≡ put (now (d .entry)) at (now (s .entry))) ⌝ }
+{
+    let mut k = at;
+    let mut i = 0;
+    while i < s.len() {
+        k = byte(d, k, s[i]);
+        i += 1;
+    }
+    k
+}
+
+fn number(d: &mut [u8], at: usize, n: usize) -> usize
+    ensures { λ r. ⌜ (r ≡ after (now (d .entry)) at (decimal n)) × (now (d .exit) ≡ put (now (d .entry)) at (decimal n)) ⌝ }
+{
+    let mut digits = [0u8; 20];
+    let k = io::decimal(n as u64, &mut digits);
+    text(d, at, &digits[..k])
+}
+
+// A shape in which each # stands for the next of the numbers; where none is left, it stands for itself.
+pub fn fill(d: &mut [u8], at: usize, shape: &[u8], numbers: &[usize]) -> usize
+    ensures { λ r. ⌜ (r ≡ after (now (d .entry)) at (filled (now (shape .entry)) (now (numbers .entry)))) × (now (d .exit) ≡ put (now (d .entry)) at (filled (now (shape .entry)) (now (numbers .entry)))) ⌝ }
+{
+    let mut k = at;
+    let mut next = 0;
+    let mut i = 0;
+    while i < shape.len() {
+        k = letter(d, k, shape[i], numbers, next);
+        next = next + is(shape[i], b'#');
+        i += 1;
+    }
+    k
+}
+
+fn letter(d: &mut [u8], at: usize, b: u8, numbers: &[usize], next: usize) -> usize
+    ensures { λ r. ⌜ (r ≡ after (now (d .entry)) at (letter b (drop next (now (numbers .entry))))) × (now (d .exit) ≡ put (now (d .entry)) at (letter b (drop next (now (numbers .entry))))) ⌝ }
+{
+    if numbers.len() <= next {
+        return byte(d, at, b);
+    }
+    if b == b'#' {
+        return number(d, at, numbers[next]);
+    }
+    byte(d, at, b)
+}
+
+// 1 or 0.
+fn is(b: u8, c: u8) -> usize
+    ensures { λ r. ⌜ r ≡ marks b c ⌝ }
+{
+    if b == c {
+        return 1;
+    }
+    0
+}
+
+// Numbers, with a text between two.
+pub fn join(d: &mut [u8], at: usize, between: &[u8], numbers: &[u32]) -> usize
+    ensures { λ r. ⌜ (r ≡ after (now (d .entry)) at (joined (now (between .entry)) (now (numbers .entry)))) × (now (d .exit) ≡ put (now (d .entry)) at (joined (now (between .entry)) (now (numbers .entry)))) ⌝ }
+{
+    if numbers.len() == 0 {
+        return at;
+    }
+    let mut k = number(d, at, wide(numbers[0]));
+    let mut i = 1;
+    while i < numbers.len() {
+        k = further(d, k, between, numbers[i]);
+        i += 1;
+    }
+    k
+}
+
+fn further(d: &mut [u8], at: usize, between: &[u8], n: u32) -> usize
+    ensures { λ r. ⌜ (r ≡ after (now (d .entry)) at (now (between .entry) ++ decimal n)) × (now (d .exit) ≡ put (now (d .entry)) at (now (between .entry) ++ decimal n)) ⌝ }
+{
+    let k = text(d, at, between);
+    number(d, k, n as usize)
+}
+
+fn wide(n: u32) -> usize
+    ensures { λ r. ⌜ r ≡ n ⌝ }
+{
+    n as usize
+}
+
+// Line n, from 0, of lines that each end in a newline; empty where it is not there.
+pub fn line(lines: &[u8], n: usize) -> &[u8]
+    ensures { λ r. ⌜ now r ≡ line n (now (lines .entry)) ⌝ }
+{
+    first_line(jp2_cio::part(lines, line_start(lines, n), lines.len()))
+}
+
+fn line_start(lines: &[u8], n: usize) -> usize
+    ensures { λ r. ⌜ line 0 (drop r (now (lines .entry))) ≡ line n (now (lines .entry)) ⌝ }
+{
+    let mut passed = 0;
+    let mut i = 0;
+    while i < lines.len() && passed < n {
+        passed = passed + is(lines[i], b'\n');
+        i += 1;
+    }
+    i
+}
+
+fn first_line(lines: &[u8]) -> &[u8]
+    ensures { λ r. ⌜ now r ≡ line 0 (now (lines .entry)) ⌝ }
+{
+    let mut i = 0;
+    while i < lines.len() {
+        if lines[i] == b'\n' {
+            return &lines[..i];
+        }
+        i += 1;
+    }
+    lines
+}
