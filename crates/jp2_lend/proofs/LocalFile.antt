@@ -1,4 +1,4 @@
--- The walk of `fn lend_f(s: &[u8], j: Jp2) -> Reading { let mut k = j; let a = jp2_lent::f(s, &mut k); Reading { answer: a, jp2: k } }`: that of `Local.antt` with two parameters in place of four.
+-- The walk of `fn lend_f(s: &[u8], j: Jp2) -> Reading { let mut k = j; let a = jp2_lentfile::f(s, &mut k); Reading { answer: a, jp2: k } }`: that of `Local.antt` with two parameters in place of four.
 -- `key` is the key of the function over a lent record. No line names a field of the record. Assumes nothing.
 use mathlib.Core.Path.{_≡_, refl, ap, subst}
 use Prim.Native.Nat.{ℕ}
@@ -46,9 +46,9 @@ use Rattle.jp2_file.proofs.Reading as G
 use Rattle.jp2_file.proofs.Reading.Laws as G′
 use Rattle.jp2_file.proofs.FileAnswer as S
 use Rattle.jp2_file.proofs.FileAnswer.Laws as S′
-use Rattle.jp2_lent.specs.Lent.{leavesFile}
-use Rattle.jp2_lent.proofs.LendingFile.{read, core-clauses, lent-clauses}
-use Rattle.jp2_lent.proofs.opj_jp2_read_header_procedure as core
+use Rattle.jp2_lentfile.specs.LentFile.{leavesFile}
+use Rattle.jp2_lentfile.proofs.LendingFile.{read, core-clauses, lent-clauses}
+use Rattle.jp2_lentfile.proofs.opj_jp2_read_header_procedure as core
 use Rattle.jp2_lend.proofs.Local.{val, vals, laid, taken}
 use Rattle.jp2_lend.proofs.lend_header_procedure as this
 

@@ -83,7 +83,7 @@ pub fn lend_jp2h(c: &[u8], place: u32, start: u32, j: Jp2) -> Outcome
     ensures { λ r. ⌜ r ≡ answer j (jp2hAlone place start (now (c .entry)) j) ⌝ }
 {
     let mut k = j;
-    let a = jp2_lent::opj_jp2_read_jp2h(c, place, start, &mut k);
+    let a = jp2_lentfile::opj_jp2_read_jp2h(c, place, start, &mut k);
     Outcome { answer: a, jp2: k }
 }
 
@@ -91,6 +91,6 @@ pub fn lend_header_procedure(s: &[u8], j: Jp2) -> Reading
     ensures { λ r. ⌜ r ≡ reading j (walk (now (s .entry)) j) ⌝ }
 {
     let mut k = j;
-    let a = jp2_lent::opj_jp2_read_header_procedure(s, &mut k);
+    let a = jp2_lentfile::opj_jp2_read_header_procedure(s, &mut k);
     Reading { answer: a, jp2: k }
 }

@@ -2,11 +2,6 @@
 use Rattle.jp2_record.specs.declared.Jp2.{Jp2}
 use Rattle.jp2_record.specs.declared.Answer.{Answer}
 use Rattle.jp2_record.specs.declared.Outcome.{Outcome}
-use Rattle.jp2_file.specs.declared.FileAnswer.{FileAnswer}
-use Rattle.jp2_file.specs.declared.Reading.{Reading}
 
 abbrev pub leaves : Answer → Jp2 → Outcome
 leaves a j = record { answer = a; jp2 = j }
-
-abbrev pub leavesFile : FileAnswer → Jp2 → Reading
-leavesFile a j = record { answer = a; jp2 = j }

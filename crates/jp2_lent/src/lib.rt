@@ -1,4 +1,4 @@
-// The readers of a box and of a file over a header record that is lent: each takes the record out, calls the reader by value, stores the record back and answers.
+// The readers of a box over a header record that is lent: each takes the record out, calls the reader by value, stores the record back and answers.
 // `leaves r (now (j .exit)) ≡ answer ..`: the answer and the record at exit are together what the reader's definition says, so a refusal leaves the record as it was.
 ghost use mathlib.Core.Path.{_≡_};
 ghost use Rattle.jp2_record.specs.Answer.{answer};
@@ -10,10 +10,7 @@ ghost use Rattle.jp2_colour.specs.Colr.{colr};
 ghost use Rattle.jp2_palette.specs.Pclr.{pclr};
 ghost use Rattle.jp2_palette.specs.Cmap.{cmap};
 ghost use Rattle.jp2_palette.specs.Cdef.{cdef};
-ghost use Rattle.jp2_walk.specs.Jp2h.{jp2hAlone};
-ghost use Rattle.jp2_file.specs.File.{walk, reading};
-ghost use Rattle.jp2_lent.specs.Lent.{leaves, leavesFile};
-use jp2_file::FileAnswer;
+ghost use Rattle.jp2_lent.specs.Lent.{leaves};
 use jp2_record::Answer;
 use jp2_record::Jp2;
 
@@ -77,23 +74,6 @@ pub fn opj_jp2_read_cdef(c: &[u8], place: u32, start: u32, j: &mut Jp2) -> Answe
     ensures { λ r. ⌜ leaves r (now (j .exit)) ≡ answer (now (j .entry)) (cdef place start (now (c .entry)) (now (j .entry))) ⌝ }
 {
     let r = jp2_palette::opj_jp2_read_cdef(c, place, start, *j);
-    *j = r.jp2;
-    r.answer
-}
-
-pub fn opj_jp2_read_jp2h(c: &[u8], place: u32, start: u32, j: &mut Jp2) -> Answer
-    ensures { λ r. ⌜ leaves r (now (j .exit)) ≡ answer (now (j .entry)) (jp2hAlone place start (now (c .entry)) (now (j .entry))) ⌝ }
-{
-    let r = jp2_walk::opj_jp2_read_jp2h(c, place, start, *j);
-    *j = r.jp2;
-    r.answer
-}
-
-// The walk through a file.
-pub fn opj_jp2_read_header_procedure(s: &[u8], j: &mut Jp2) -> FileAnswer
-    ensures { λ r. ⌜ leavesFile r (now (j .exit)) ≡ reading (now (j .entry)) (walk (now (s .entry)) (now (j .entry))) ⌝ }
-{
-    let r = jp2_file::opj_jp2_read_header_procedure(s, *j);
     *j = r.jp2;
     r.answer
 }

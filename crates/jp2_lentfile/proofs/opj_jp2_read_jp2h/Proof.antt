@@ -6,11 +6,11 @@ use Rattle.jp2_walk.specs.Jp2h.{jp2hAlone}
 use Rattle.jp2_walk.proofs.opj_jp2_read_jp2h.Symbol as core-def
 use Rattle.jp2_walk.proofs.opj_jp2_read_jp2h.Symbol.{name as #core}
 use Rattle.jp2_walk.proofs.opj_jp2_read_jp2h.Met as core-thm
 use Rattle.jp2_lent.proofs.Lending.{Core, meets}
-use Rattle.jp2_lent.proofs.opj_jp2_read_jp2h.Key.{name as #this}
-use Rattle.jp2_lent.proofs.opj_jp2_read_jp2h as this
-use Rattle.jp2_lent.proofs.opj_jp2_read_jp2h.Statement as stated
-use Rattle.jp2_lent.proofs.opj_jp2_read_jp2h.Code as code
+use Rattle.jp2_lentfile.proofs.opj_jp2_read_jp2h.Key.{name as #this}
+use Rattle.jp2_lentfile.proofs.opj_jp2_read_jp2h as this
+use Rattle.jp2_lentfile.proofs.opj_jp2_read_jp2h.Statement as stated
+use Rattle.jp2_lentfile.proofs.opj_jp2_read_jp2h.Code as code
 
 pub opj-jp2-read-jp2h-spec : {M : Type 1} → stated.statement M
 unfolding code.routine tablesOf

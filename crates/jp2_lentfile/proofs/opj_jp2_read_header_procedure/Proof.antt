@@ -5,11 +5,11 @@ use denote.Triple.Table.{entered, cited}
 use Rattle.jp2_file.proofs.opj_jp2_read_header_procedure.Symbol as core-def
 use Rattle.jp2_file.proofs.opj_jp2_read_header_procedure.Symbol.{name as #core}
 use Rattle.jp2_file.proofs.opj_jp2_read_header_procedure.Met as core-thm
-use Rattle.jp2_lent.proofs.LendingFile.{Core, meets}
-use Rattle.jp2_lent.proofs.opj_jp2_read_header_procedure.Key.{name as #this}
-use Rattle.jp2_lent.proofs.opj_jp2_read_header_procedure as this
-use Rattle.jp2_lent.proofs.opj_jp2_read_header_procedure.Statement as stated
-use Rattle.jp2_lent.proofs.opj_jp2_read_header_procedure.Code as code
+use Rattle.jp2_lentfile.proofs.LendingFile.{Core, meets}
+use Rattle.jp2_lentfile.proofs.opj_jp2_read_header_procedure.Key.{name as #this}
+use Rattle.jp2_lentfile.proofs.opj_jp2_read_header_procedure as this
+use Rattle.jp2_lentfile.proofs.opj_jp2_read_header_procedure.Statement as stated
+use Rattle.jp2_lentfile.proofs.opj_jp2_read_header_procedure.Code as code
 
 pub opj-jp2-read-header-procedure-spec : {M : Type 1} → stated.statement M
 unfolding code.routine tablesOf

@@ -46,8 +46,8 @@ use Rattle.jp2_file.proofs.Reading.Laws as G′
 use Rattle.jp2_file.proofs.FileAnswer as S
 use Rattle.jp2_file.proofs.FileAnswer.Laws as S′
 use Rattle.jp2_file.proofs.opj_jp2_read_header_procedure as core
-use Rattle.jp2_lent.specs.Lent.{leavesFile}
-use Rattle.jp2_lent.proofs.opj_jp2_read_header_procedure as this
+use Rattle.jp2_lentfile.specs.LentFile.{leavesFile}
+use Rattle.jp2_lentfile.proofs.opj_jp2_read_header_procedure as this
 
 abbrev file-slot : Slot 2
 file-slot = shrSliceOf (0 ∷ []) tt (plain (λ _. u8))
