@@ -21,16 +21,16 @@ use Rattle.jp2_reading.proofs.Walks.{heard, file-reads}
 
 pub too-long : TooLong
 unfolding walk
-too-long f h = sym (row 0 _ (omega arith) refl)
+too-long f j h = sym (row 0 _ (omega arith) refl)
 
--- what reading f does to the record before any box
-pub read-reads : {f : List ℕ} {P : ℕ → Jp2 → Type 0} → Law f P → Reads P (heard (length f) 0 blank) 0 f blank (read f)
+-- what reading f does to a record
+pub walk-reads : {f : List ℕ} {P : ℕ → Jp2 → Type 0} → Law f P → (j : Jp2) → Reads P (heard (length f) 0 j) 0 f j (walk f j)
 unfolding walk
-read-reads {f} {P} law = each (Reads P (heard (length f) 0 blank) 0 f blank) _ ((λ h. refuses (omega arith) (omega arith) (omega arith)), λ _. file-reads law (length f) 0 f blank (lies-whole f))
+walk-reads {f} {P} law j = each (Reads P (heard (length f) 0 j) 0 f j) _ ((λ h. refuses (omega arith) (omega arith) (omega arith)), λ _. file-reads law (length f) 0 f j (lies-whole f))
 
--- the record that f is read to
+-- the record that f is read to from the one before any box
 pub read-moves : {f : List ℕ} {P : ℕ → Jp2 → Type 0} → Law f P → (m : Jp2) → given (read f) ≡ accepted m → Moves P (heard (length f) 0 blank) 0 f blank m
-read-moves {f} {P} law m = go (read f) (read-reads law)
+read-moves {f} {P} law m = go (read f) (walk-reads law blank)
   where
     go : (w : Walked) → Reads P (heard (length f) 0 blank) 0 f blank w → given w ≡ accepted m → Moves P (heard (length f) 0 blank) 0 f blank m
     go (codestream offset k) y e = let z : k ≡ m = cc in subst (Moves P (heard (length f) 0 blank) 0 f blank) z (y .1)
@@ -49,15 +49,15 @@ definitions-free f g m e a =
     each (λ (_ : ℕ). read g ≡ read f) (m .lists .cdef .count =? 0 ⇒ 0 ∣ otherwise 0)
     ((λ z. ap read (equal-apart d (λ i l b. omega arith))), λ h. rw (a .long, free refl (omega arith) ((read-moves (nothing f) m e) .list) g d))
 
-refused-reads : (f : List ℕ) (number place : ℕ) → read f ≡ turnedDown number place → Refuses number place (length f)
-refused-reads f number place e = later (subst (Reads (λ _ _. Unit) (heard (length f) 0 blank) 0 f blank) e (read-reads (nothing f))) (omega arith)
+refused-reads : (f : List ℕ) (j : Jp2) (number place : ℕ) → walk f j ≡ turnedDown number place → Refuses number place (length f)
+refused-reads f j number place e = later (subst (Reads (λ _ _. Unit) (heard (length f) 0 j) 0 f j) e (walk-reads (nothing f) j)) (omega arith)
 
 pub numbers-within : NumbersWithin
-numbers-within f number place e = let r = refused-reads f number place e in (r .least, r .most)
+numbers-within f j number place e = let r = refused-reads f j number place e in (r .least, r .most)
 
 pub places-within : PlacesWithin
 places-within =
     record {
-      refusal = λ f number place e. (refused-reads f number place e) .within;
-      stream = λ f offset m e. omega (arith, (subst (Reads (λ _ _. Unit) (heard (length f) 0 blank) 0 f blank) e (read-reads (nothing f))) .0);
+      refusal = λ f j number place e. (refused-reads f j number place e) .within;
+      stream = λ f j offset m e. omega (arith, (subst (Reads (λ _ _. Unit) (heard (length f) 0 j) 0 f j) e (walk-reads (nothing f) j)) .0);
     }
