@@ -10,6 +10,7 @@ use Rattle.jp2_cio.specs.Number.{bytes}
 use Rattle.jp2_cio.proofs.Bytes.{length-bytes}
 use Rattle.jp2_cio.specs.Table.{_=?_, _≠?_, otherwise, _⇒_∣_}
 use Rattle.jp2_cio.proofs.Rows.{Says, row, each}
+use Rattle.jp2_written.proofs.Splitting.{length-header, length-box}
 use Rattle.jp2_written.specs.Box.{boxHeader, box, series}
 use Rattle.jp2_written.specs.Setup.{BR, MinV, CL}
 use Rattle.jp2_written.specs.Signature.{signature}
@@ -17,11 +18,6 @@ use Rattle.jp2_written.specs.FileType.{fileType}
 use Rattle.jp2_written.specs.Cdef as cdef
 use Rattle.jp2_setup.specs.declared.Fields.{Fields}
 use Rattle.jp2_write.specs.Parts.{ihdrOf, depthsOf, bpccOf, specificationOf, colrOf, definitionOf, definitionsOf, cdefOf, bpccLength, colrLength, cdefLength}
-use Rattle.jp2_write.proofs.Pieces.{length-header}
-
-pub box-length : (type : ℕ) (content : List ℕ) → length (box type content) ≡ 8 + length content
-unfolding box
-box-length type content = rw (length-append, length-header)
 
 -- pieces of one byte, and of six
 module _ (piece : ℕ → List ℕ) where
@@ -46,7 +42,7 @@ definitions-length comps colours = series-6 _ (fields-length comps colours)
 
 module _ (s : Fields) where
   pub ihdr-length : length (ihdrOf s) ≡ 22
-  ihdr-length = box-length 0x69686472 _ ∙ simp (length-append, length-bytes)
+  ihdr-length = length-box 0x69686472 _ ∙ simp (length-append, length-bytes)
 
   -- each row of the lengths
   pub bpcc-none : Says true (s .bpc ≠? 255) → 0 ≡ bpccLength s
@@ -102,7 +98,7 @@ module _ (s : Fields) where
   unfolding bpccOf
   bpcc-length comps =
       each (λ xs. length xs ≡ bpccLength s) (s .bpc ≠? 255 ⇒ [] ∣ otherwise (box 0x62706363 (depthsOf comps (s .numcomps))))
-      (bpcc-none, λ h. box-length 0x62706363 (depthsOf comps (s .numcomps)) ∙ ap (λ n. 8 + n) (depths-length comps (s .numcomps)) ∙ bpcc-some h)
+      (bpcc-none, λ h. length-box 0x62706363 (depthsOf comps (s .numcomps)) ∙ ap (λ n. 8 + n) (depths-length comps (s .numcomps)) ∙ bpcc-some h)
 
   -- what the method asks for is what is left of the box
   pub specification-length : (profile : List ℕ) → colrLength s (length profile) ≡ 11 + length (specificationOf s profile)
@@ -115,7 +111,7 @@ module _ (s : Fields) where
   content-length profile = simp (length-append, length-bytes) (omega arith)
 
   pub colr-length : (profile : List ℕ) → length (colrOf s profile) ≡ colrLength s (length profile)
-  colr-length profile = box-length 0x636f6c72 (bytes 1 (s .meth) ++ bytes 1 0 ++ bytes 1 0 ++ specificationOf s profile) ∙ omega (arith, content-length profile, specification-length profile)
+  colr-length profile = length-box 0x636f6c72 (bytes 1 (s .meth) ++ bytes 1 0 ++ bytes 1 0 ++ specificationOf s profile) ∙ omega (arith, content-length profile, specification-length profile)
 
   pub defined-length : (comps : List ℕ) → length (bytes 2 (s .definitions) ++ definitionsOf comps (s .colours) (s .definitions)) ≡ 2 + 6 * s .definitions
   defined-length comps = rw (length-append, length-bytes, definitions-length comps (s .colours) (s .definitions))
@@ -124,7 +120,7 @@ module _ (s : Fields) where
   unfolding cdefOf
   cdef-length comps =
       each (λ xs. length xs ≡ cdefLength s) (s .definitions =? 0 ⇒ [] ∣ otherwise (box 0x63646566 (bytes 2 (s .definitions) ++ definitionsOf comps (s .colours) (s .definitions))))
-      (cdef-none, λ h. box-length 0x63646566 (bytes 2 (s .definitions) ++ definitionsOf comps (s .colours) (s .definitions)) ∙ omega (arith, defined-length comps, cdef-some h))
+      (cdef-none, λ h. length-box 0x63646566 (bytes 2 (s .definitions) ++ definitionsOf comps (s .colours) (s .definitions)) ∙ omega (arith, defined-length comps, cdef-some h))
 
   -- and at most
   pub bpcc-most : s .numcomps ≤ 16384 → bpccLength s ≤ 16392
@@ -143,7 +139,7 @@ module _ (s : Fields) where
   jp2h-length comps profile = rw (length-append, length-append, length-append, ihdr-length, bpcc-length comps, colr-length profile, cdef-length comps)
 
 pub signature-length : length signature ≡ 12
-signature-length = box-length 0x6a502020 (bytes 4 0x0d0a870a) ∙ simp length-bytes
+signature-length = length-box 0x6a502020 (bytes 4 0x0d0a870a) ∙ simp length-bytes
 
 pub fileType-length : length fileType ≡ 20
-fileType-length = box-length 0x66747970 (bytes 4 BR ++ bytes 4 MinV ++ bytes 4 CL) ∙ simp (length-append, length-bytes)
+fileType-length = length-box 0x66747970 (bytes 4 BR ++ bytes 4 MinV ++ bytes 4 CL) ∙ simp (length-append, length-bytes)

@@ -52,10 +52,6 @@ module _ (d : List ℕ) (at : ℕ) where
   pub put-length : {xs : List ℕ} {m : ℕ} {e : List ℕ} {k : ℕ} → Put d at xs m e k → at + m ≤ length d → length e ≡ length d
   put-length {xs} q h = ap length (q .is) ∙ length-placed d at xs (let l = q .long in omega arith)
 
-pub length-header : (type n : ℕ) → length (boxHeader type n) ≡ 8
-unfolding boxHeader
-length-header type n = simp (length-append, length-bytes)
-
 -- a header and the content that it announces
 pub box-is : (type : ℕ) {n : ℕ} (content : List ℕ) → n ≡ length content → boxHeader type n ++ content ≡ box type content
 unfolding box

@@ -10,6 +10,7 @@ use borrow.Author.Tests.{not-true, not-false}
 use Rattle.jp2_cio.specs.Number.{placed}
 use Rattle.jp2_cio.specs.Table.{_=?_, _≠?_, _<?_, _or_, _and_, holds}
 use Rattle.jp2_cio.proofs.Rows.{Says, said, row}
+use Rattle.jp2_written.proofs.Splitting.{length-header, length-box}
 use Rattle.jp2_written.specs.Box.{boxHeader}
 use Rattle.jp2_written.specs.Signature.{signature}
 use Rattle.jp2_written.specs.FileType.{fileType}
@@ -19,8 +20,7 @@ use Rattle.jp2_write.specs.declared.Written.{Written}
 use Rattle.jp2_write.specs.declared.Written.the-variants.{Bytes, Refused}
 use Rattle.jp2_write.specs.Answers.{answered}
 use Rattle.jp2_write.specs.Parts.{ihdrOf, bpccOf, colrOf, cdefOf, jp2hOf, frontOf, frontLength, ready}
-use Rattle.jp2_write.proofs.Pieces.{length-header}
-use Rattle.jp2_write.proofs.Lengths.{box-length, jp2h-length, signature-length, fileType-length}
+use Rattle.jp2_write.proofs.Lengths.{jp2h-length, signature-length, fileType-length}
 
 -- what a writing answers, and the destination after it
 abbrev pub Done : Writing → Written → List ℕ → List ℕ → Type 0
@@ -47,7 +47,7 @@ module _ (comps : List ℕ) (s : Fields) (profile : List ℕ) (codestream : ℕ)
   unfolding frontOf
   front-length =
       let content = ihdrOf s ++ bpccOf comps s ++ colrOf s profile ++ cdefOf comps s in
-      rw (length-append, length-append, length-append) (omega (arith, signature-length, fileType-length, box-length 0x6a703268 content, jp2h-length s comps profile, length-header 0x6a703263 codestream))
+      rw (length-append, length-append, length-append) (omega (arith, signature-length, fileType-length, length-box 0x6a703268 content, jp2h-length s comps profile, length-header 0x6a703263 codestream))
 
   module _ (room : ℕ) where
     abbrev x : Writing

@@ -4,8 +4,8 @@ use native.Mathlib.Omega.{arith}
 use mathlib.Core.Path.{refl}
 use mathlib.Core.List.{_++_, append-assoc}
 use lib.ListN.{length-append}
+use Rattle.jp2_written.proofs.Splitting.{length-header}
 use Rattle.jp2_written.specs.Box.{boxHeader, box}
-use Rattle.jp2_write.proofs.Pieces.{length-header}
 use Rattle.jp2_written.specs.FileType.{fileType}
 use Rattle.jp2_cio.specs.Number.{bytes}
 use Rattle.jp2_cio.proofs.Bytes.{length-bytes}

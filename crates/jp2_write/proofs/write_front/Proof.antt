@@ -5,12 +5,13 @@ use native.Mathlib.Omega.{arith}
 use mathlib.Core.Path.{_≡_, refl, sym, ap, _∙_}
 use mathlib.Core.List.{_++_}
 use lib.ListN.{length}
+use Rattle.jp2_written.proofs.Splitting.{length-header, length-box}
 use Rattle.jp2_written.specs.Box.{boxHeader}
 use Rattle.jp2_written.specs.Signature.{signature}
 use Rattle.jp2_written.specs.FileType.{fileType}
 use Rattle.jp2_write.specs.Parts.{ihdrOf, bpccOf, colrOf, cdefOf, jp2hOf, frontOf, jp2hLength}
-use Rattle.jp2_write.proofs.Pieces.{length-header, first, piece, whole}
-use Rattle.jp2_write.proofs.Lengths.{box-length, signature-length, fileType-length, jp2h-length}
+use Rattle.jp2_write.proofs.Pieces.{first, piece, whole}
+use Rattle.jp2_write.proofs.Lengths.{signature-length, fileType-length, jp2h-length}
 use borrow.Author.Needs.{needs}
 use Rattle.jp2_write.proofs.write_front.Statement.{statement}
 use Rattle.jp2_write.proofs.write_front.Tie as tie
@@ -38,7 +39,7 @@ returns c =
     let d = a .d .now in
     let m = jp2hLength (a .s) (length (a .profile .now)) in
     let x = jp2hOf (a .comps .now) (a .s) (a .profile .now) in
-    let l = box-length 0x6a703268 (ihdrOf (a .s) ++ bpccOf (a .comps .now) (a .s) ++ colrOf (a .s) (a .profile .now) ++ cdefOf (a .comps .now) (a .s)) ∙ ap (λ k. 8 + k) (jp2h-length (a .s) (a .comps .now) (a .profile .now)) in
+    let l = length-box 0x6a703268 (ihdrOf (a .s) ++ bpccOf (a .comps .now) (a .s) ++ colrOf (a .s) (a .profile .now) ++ cdefOf (a .comps .now) (a .s)) ∙ ap (λ k. 8 + k) (jp2h-length (a .s) (a .comps .now) (a .profile .now)) in
     let p0 = first d 0 signature 12 signature-length (c .before .before .before .before .before .before .before .before .before .before .before .before .before .before .opj-jp2-write-jp .ensures) in
     let p1 = piece d 0 signature 12 p0 fileType 20 fileType-length (omega (arith, b .pre .0)) (c .before .before .before .before .before .before .before .before .before .before .opj-jp2-write-ftyp .ensures) in
     let p2 = piece d 0 (signature ++ fileType) 32 p1 x (8 + m) l (omega (arith, b .pre .0)) (c .before .before .before .before .before .before .opj-jp2-write-jp2h .ensures) in
