@@ -6,6 +6,7 @@ mod tally;
 use crate::comparison::Comparison;
 use crate::ours;
 use oracle::generate::{systematic, Generator};
+use oracle::numbers::REFUSED;
 use std::path::{Path, PathBuf};
 
 pub use check::CheckedFile;
@@ -21,6 +22,10 @@ pub fn compare(seed: u64, count: u64, folder: Option<&Path>) -> Result<bool, Str
         println!("the port does not mind the length of the list that it writes to");
         return Ok(false);
     }
+    if !minds_the_length() {
+        println!("the port does not mind the length of a file");
+        return Ok(false);
+    }
     let mut comparison = Comparison::<CheckedFile>::new();
     comparison.all("systematic files", systematic());
     for (path, file) in &pictures {
@@ -32,6 +37,20 @@ pub fn compare(seed: u64, count: u64, folder: Option<&Path>) -> Result<bool, Str
     let name = format!("generated files of seed {seed}");
     comparison.all(&name, (0..count).map(|number| generator.file(number)));
     Ok(comparison.end())
+}
+
+/// Whether the port refuses by 1 a file that is longer than 32 bits count, which the crate does not, and only such a one:
+/// a byte less is a box of zeros before the signature. No byte after the first box header is looked at, so that the system
+/// lays out hardly any memory.
+fn minds_the_length() -> bool {
+    let file = vec![0; 1 << 32];
+    let refused = |file: &[u8]| ours::read(file).map(|row| [row[0], row[1], row[2]]);
+    let (over, most) = (refused(&file), refused(&file[1..]));
+    let minded = over == Some([REFUSED, 1, 0]) && most == Some([REFUSED, 5, 0]);
+    if minded {
+        println!("a file of {} bytes: refused with 1", file.len());
+    }
+    minded
 }
 
 /// The files of a folder that have the ending of a picture, by name.

@@ -4,7 +4,7 @@ use super::check::CheckedFile;
 use crate::comparison;
 use oracle::numbers::{index, CODESTREAM, ENDED, REFUSED};
 
-/// Document 01's numbers about reading; 1 is for files over 4 GiB and does not come up.
+/// Document 01's numbers about reading; 1 is for files over 4 GiB, of which there is one, apart.
 const REFUSALS: std::ops::RangeInclusive<usize> = 2..=24;
 
 /// What a file that was read can have: its name, and the number that is not 0 then.
