@@ -1,5 +1,1 @@
-pub mod Room
-pub mod Numbers
-pub mod Picture
-pub mod Again
-pub mod Writing
+pub mod Replies

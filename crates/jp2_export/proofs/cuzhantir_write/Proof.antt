@@ -1,48 +1,39 @@
 -- `jp2_export::cuzhantir_write` meets its contract.
 -- Assumes nothing.
-use native.Mathlib.Omega.{arith}
-use mathlib.Core.Path.{refl, ap, _∙_}
-use Rattle.jp2_cio.specs.Number.{placed}
-use Rattle.jp2_cio.proofs.Rows.{row}
-use Rattle.jp2_export.specs.Room.{room}
-use Rattle.jp2_export.specs.Writing.{toldWritten, refusalWritten}
-use borrow.Author.Needs.{needs}
+use mathlib.Core.Path.{ap, _∙_}
+use Rattle.jp2_numbers.proofs.Rooms.{short, long, same-reply}
+use Rattle.jp2_export.specs.Replies.{ofWritten}
 use Rattle.jp2_export.proofs.cuzhantir_write.Statement.{statement}
 use Rattle.jp2_export.proofs.cuzhantir_write.Tie as tie
 
 returns : tie.Need-returns
-unfolding room
-returns c = (row 0 _ (omega arith) refl, (row 0 _ (omega arith) refl, row 0 _ (omega arith) refl))
+returns c =
+    let d = c .before .before .before .before .before .args .answer .now in
+    let h = c .if1 .taken in
+    (short 4 d _ _ h, (short 4 d _ _ h, short 4 d _ _ h))
 
 write-boxes-requires : tie.Need-write-boxes-requires
-write-boxes-requires c κs = search needs
+write-boxes-requires c κs = tt
 
-written-numbers-requires : tie.Need-written-numbers-requires
-written-numbers-requires c κs = search needs
+written-requires : tie.Need-written-requires
+written-requires c κs = tt
 
-slice-aggregate-put : tie.Need-slice-aggregate-put
-slice-aggregate-put c = search needs
-
-put-requires : tie.Need-put-requires
-put-requires c κs = search needs
-
-written-number-requires : tie.Need-written-number-requires
-written-number-requires c κs = search needs
+give-reply-requires : tie.Need-give-reply-requires
+give-reply-requires c κs = tt
 
 same-length : tie.Need-same-length
-same-length c = search needs
+same-length c = c .before .before .before .before .before .before .d .given
 
 same-length-2 : tie.Need-same-length-2
-same-length-2 c = search needs
+same-length-2 c = c .before .answer .given
 
 returns-2 : tie.Need-returns-2
-unfolding room
 returns-2 c =
-    let a = c .before .before .before .before .before .before .before .before .before .before .before .before .before .before .before .before .args in
-    let e = c .before .before .before .before .before .before .before .before .before .write-boxes .ensures in (
-      row 1 _ (omega arith) (c .written-number .ensures ∙ ap refusalWritten (e .0)),
-      (row 1 _ (omega arith) (c .before .before .before .put .ensures ∙ ap (placed (a .answer .now) 0) (c .before .before .before .before .before .written-numbers .ensures ∙ ap toldWritten (e .0))), row 1 _ (omega arith) (e .1)),
-    )
+    let d = c .before .before .before .before .before .before .before .before .before .before .before .before .before .before .args .answer .now in
+    let h = c .before .before .before .before .before .before .before .before .before .if1 .left in
+    let e = c .before .before .before .before .before .before .before .write-boxes .ensures in
+    let g = same-reply d (c .before .before .before .before .written .ensures ∙ ap ofWritten (e .0)) (c .before .before .give-reply .ensures) in
+    (g .0, (g .1, long 4 d _ _ h (e .1)))
 
 pub cuzhantir-write-spec : {M : Type 1} → statement M
 cuzhantir-write-spec =
@@ -50,10 +41,8 @@ cuzhantir-write-spec =
     (tie.spec
     returns
     write-boxes-requires
-    written-numbers-requires
-    slice-aggregate-put
-    put-requires
-    written-number-requires
+    written-requires
+    give-reply-requires
     same-length
     same-length-2
     returns-2)

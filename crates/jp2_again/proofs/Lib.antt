@@ -1,0 +1,3 @@
+pub mod Agains
+pub mod Lents
+pub mod Steps

@@ -1,0 +1,24 @@
+-- `jp2_again::misnumbered` meets its contract.
+-- Assumes nothing.
+use native.Mathlib.Omega.{arith}
+use mathlib.Core.Path.{sym}
+use mathlib.Core.Bool.{true, false}
+use Rattle.jp2_cio.proofs.Rows.{shown}
+use Rattle.jp2_again.specs.Again.{misnumberedAs}
+use Rattle.jp2_again.proofs.misnumbered.Statement.{statement}
+use Rattle.jp2_again.proofs.misnumbered.Tie as tie
+
+returns : tie.Need-returns
+returns c = let a = c .before .args in sym (shown false (misnumberedAs (a .kind) (a .number)) (λ two. absurd (omega arith)))
+
+returns-2 : tie.Need-returns-2
+returns-2 c = let a = c .before .before .args in sym (shown true (misnumberedAs (a .kind) (a .number)) (omega arith, λ some. absurd (some (omega arith))))
+
+returns-3 : tie.Need-returns-3
+returns-3 c = let a = c .before .before .before .args in sym (shown true (misnumberedAs (a .kind) (a .number)) (omega arith, λ some. omega arith))
+
+returns-4 : tie.Need-returns-4
+returns-4 c = let a = c .before .before .before .args in sym (shown false (misnumberedAs (a .kind) (a .number)) (λ two. ((λ none. omega arith), omega arith)))
+
+pub misnumbered-spec : {M : Type 1} → statement M
+misnumbered-spec = tie.close (tie.spec returns returns-2 returns-3 returns-4)

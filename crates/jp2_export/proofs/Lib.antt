@@ -1,4 +1,0 @@
-pub mod Giving
-pub mod Agains
-pub mod Lents
-pub mod Steps
