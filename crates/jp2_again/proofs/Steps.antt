@@ -24,9 +24,9 @@ two-steps h = go (read (h .file)) refl
   where
     go : (w : Walked) → read (h .file) ≡ w → Fits ((reading blank w) .jp2) → again h (numbers (reading blank w)) ≡ pictured h
     go (codestream offset m) e fits =
-        rw e (on h _ (omega arith, (omega arith, ((λ two. absurd (omega arith)), (fits .entries, fits .columns)))) (λ two. omega arith) ∙ finish-same (h .file) m (h .ignore) (h .image) (h .records) (h .samples))
+        rw e (on h _ (omega arith, (omega arith, ((λ two. absurd (omega arith)), (omega arith, omega arith)))) (λ two. omega arith) ∙ finish-same (h .file) m (h .ignore) (h .image) (h .records) (h .samples))
     go (ended m) e fits =
-        rw e (on h _ (omega arith, (omega arith, ((λ two. absurd (omega arith)), (fits .entries, fits .columns)))) (λ two. omega arith) ∙ finish-same (h .file) m (h .ignore) (h .image) (h .records) (h .samples))
+        rw e (on h _ (omega arith, (omega arith, ((λ two. absurd (omega arith)), (omega arith, omega arith)))) (λ two. omega arith) ∙ finish-same (h .file) m (h .ignore) (h .image) (h .records) (h .samples))
     go (turnedDown number place) e fits =
         let w = numbers-within (h .file) blank number place e in
         rw e (refused h _ (omega arith, (omega arith, ((λ two. ((λ z. omega (arith, w .0)), w .1)), (omega arith, omega arith)))) refl)

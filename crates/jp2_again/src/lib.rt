@@ -1,6 +1,5 @@
 // Finishing a picture whose file was read before: the reading comes as numbers, from a caller who is not trusted.
 ghost use mathlib.Core.Path.{_≡_};
-ghost use lib.ListN.{length};
 ghost use Rattle.jp2_cio.specs.Table.{holds};
 ghost use Rattle.jp2_finish.specs.Answers.{answered, recordsAfter, samplesAfter};
 ghost use Rattle.jp2_whole.specs.Whole.{handed};

@@ -27,6 +27,7 @@ pub extern "C" fn cuzhantir_read(file: &[u8], reading: &mut [u64]) -> u32
     jp2_numbers::read_numbers(file, reading)
 }
 
+// What finishing answered, as a reply.
 fn finished(r: Finished) -> Reply
     ensures { λ a. ⌜ a ≡ ofFinished r ⌝ }
 {
@@ -94,6 +95,7 @@ pub extern "C" fn cuzhantir_finish(
     jp2_numbers::give_reply(finished(r), answer)
 }
 
+// What writing answered, as a reply.
 fn written(r: Written) -> Reply
     ensures { λ a. ⌜ a ≡ ofWritten r ⌝ }
 {
