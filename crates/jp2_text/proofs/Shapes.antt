@@ -1,17 +1,24 @@
 -- A shape letter by letter, and numbers one by one.
 -- Assumes nothing.
-use Prim.Native.Nat.{ℕ, zero, suc, _+_, _≤_, _<_}
+use Prim.Native.Nat.{ℕ, zero, suc, _+_, _-_, _≤_, _<_}
 use native.Mathlib.Omega.{arith}
 use native.Mathlib.Numerals.{add-one}
 use mathlib.Core.Path.{_≡_, refl, sym, ap, _∙_}
 use mathlib.Core.List.{List, [], _∷_, _++_}
 use lib.Dec.{eqb}
-use lib.ListN.{length, getD, drop, drop-of-length-le}
-use lib.Seq.{drop-cons, drop-drop, drop-nil}
+use lib.ListN.{length, getD, take, drop, length-drop, drop-of-length-le}
+use lib.Seq.{drop-cons, drop-drop, drop-nil, take-all, take-nil}
 use Rattle.jp2_cio.specs.Table.{table}
-use Rattle.jp2_cio.proofs.Rows.{row, either}
+use Rattle.jp2_cio.specs.Number.{number, least}
+use Rattle.jp2_palette.specs.Pclr.{entryBytes}
+use Rattle.jp2_cio.proofs.Rows.{row, each, either}
 use Rattle.jp2_text.specs.Text.{decimal, filled, behind, joined}
-use Rattle.jp2_text.specs.Parts.{letter, marks}
+use Rattle.jp2_text.specs.Parts.{letter, marks, gap}
+use Rattle.jp2_text.specs.Row.{values}
+
+-- a text byte by byte
+pub drop-turn : (s : List ℕ) (i : ℕ) → i < length s → drop i s ≡ (getD s i 0 ∷ []) ++ drop (i + 1) s
+drop-turn s i h = rw (add-one i) (drop-cons s i 0 h)
 
 filled-letter : (b : ℕ) (shape numbers : List ℕ) → filled (b ∷ shape) numbers ≡ letter b numbers ++ filled shape (drop (marks b 35) numbers)
 unfolding filled letter marks table
@@ -41,24 +48,60 @@ unfolding letter
 letter-other b [] e = refl
 letter-other b (n ∷ numbers) e = sym (row 1 _ (e, tt) refl)
 
-pub behind-turn : (between numbers : List ℕ) (i : ℕ) → i < length numbers → behind between (drop i numbers) ≡ (between ++ decimal (getD numbers i 0)) ++ behind between (drop (i + 1) numbers)
-unfolding behind
-behind-turn between numbers i h = rw (add-one i, drop-cons numbers i 0)
+pub gap-some : (i : ℕ) (between : List ℕ) → (i ≡ 0 → ⊥) → between ≡ gap i between
+gap-some zero between h = absurd (h refl)
+gap-some (suc i) between h = refl
 
-pub behind-past : (between numbers : List ℕ) (i : ℕ) → length numbers ≤ i → behind between (drop i numbers) ≡ []
-unfolding behind
-behind-past between numbers i h = rw (drop-of-length-le numbers h)
+-- numbers from number i on
+abbrev pub listed : ℕ → List ℕ → List ℕ → List ℕ
+listed zero between numbers = joined between numbers
+listed (suc i) between numbers = behind between numbers
 
-pub joined-first : (between numbers : List ℕ) → 0 < length numbers → joined between numbers ≡ decimal (getD numbers 0 0) ++ behind between (drop 1 numbers)
-unfolding joined
-joined-first between [] h = absurd (omega arith)
-joined-first between (n ∷ numbers) h = refl
+pub listed-turn : (i : ℕ) (between : List ℕ) (n : ℕ) (numbers : List ℕ) → listed i between (n ∷ numbers) ≡ (gap i between ++ decimal n) ++ listed (i + 1) between numbers
+unfolding behind joined
+listed-turn zero between n numbers = refl
+listed-turn (suc i) between n numbers = rw (add-one (suc i))
 
-pub joined-none : (between numbers : List ℕ) → length numbers ≡ 0 → joined between numbers ≡ []
-unfolding joined
-joined-none between [] h = refl
-joined-none between (n ∷ numbers) h = absurd (omega arith)
+pub listed-none : (i : ℕ) (between : List ℕ) → listed i between [] ≡ []
+unfolding behind joined
+listed-none zero between = refl
+listed-none (suc i) between = refl
 
--- a text byte by byte
-pub drop-turn : (s : List ℕ) (i : ℕ) → i < length s → drop i s ≡ (getD s i 0 ∷ []) ++ drop (i + 1) s
-drop-turn s i h = rw (add-one i) (drop-cons s i 0 h)
+pub joined-turn : (between numbers : List ℕ) (i : ℕ) → i < length numbers → listed i between (drop i numbers) ≡ (gap i between ++ decimal (getD numbers i 0)) ++ listed (i + 1) between (drop (i + 1) numbers)
+joined-turn between numbers i h = rw (drop-turn numbers i h) (listed-turn i between (getD numbers i 0) (drop (i + 1) numbers))
+
+pub joined-past : (between numbers : List ℕ) (i : ℕ) → length numbers ≤ i → listed i between (drop i numbers) ≡ []
+joined-past between numbers i h = rw (drop-of-length-le numbers h) (listed-none i between)
+
+-- the values of a palette's row, column by column
+least-low : (n k : ℕ) → n ≤ k → least n k ≡ n
+least-low n k h = each (λ (m : ℕ). m ≡ n) _ ((λ t. refl), λ f. omega arith)
+
+entry-small : (b : ℕ) → entryBytes b ≤ 4
+unfolding entryBytes
+entry-small b = each (λ (n : ℕ). n ≤ 4) _ ((λ t. omega arith), λ f. omega arith)
+
+entry-most : (b : ℕ) → least (entryBytes b) 4 ≡ entryBytes b
+entry-most b = least-low (entryBytes b) 4 (entry-small b)
+
+pub least-within : (n k : ℕ) → least n k ≤ k
+least-within n k = each (λ (m : ℕ). m ≤ k) _ ((λ t. omega arith), λ f. omega arith)
+
+-- what is left behind n bytes, or behind as many as there are
+rest-is : (n : ℕ) (s : List ℕ) → take (length s - least n (length s)) (drop (least n (length s)) s) ≡ drop n s
+rest-is n s =
+    each (λ (m : ℕ). take (length s - m) (drop m s) ≡ drop n s) _ (
+      (λ t. take-all (length s - n) (drop n s) (rw length-drop (omega arith))),
+      λ f. rw (drop-of-length-le s f, drop-of-length-le s {i = length s} (omega arith)) (take-nil (length s - length s)),
+    )
+
+pub row-turn : (between depths c : List ℕ) (i : ℕ) {n r size : ℕ} → i < length depths → size ≡ entryBytes (getD depths i 0) → n ≡ number c 0 (least size 4) → r ≡ least size (length c)
+    → listed i between (values (drop i depths) c) ≡ (gap i between ++ decimal n) ++ listed (i + 1) between (values (drop (i + 1) depths) (take (length c - r) (drop r c)))
+unfolding values
+row-turn between depths c i {n} {r} {size} h z e t =
+    let b = getD depths i 0 in
+    rw (drop-turn depths i h, e, t, rest-is size c, z, entry-most b) (listed-turn i between (number c 0 (entryBytes b)) (values (drop (i + 1) depths) (drop (entryBytes b) c)))
+
+pub row-past : (between depths c : List ℕ) (i : ℕ) → length depths ≤ i → listed i between (values (drop i depths) c) ≡ []
+unfolding values
+row-past between depths c i h = rw (drop-of-length-le depths h) (listed-none i between)

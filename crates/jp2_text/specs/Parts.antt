@@ -1,5 +1,5 @@
--- What the private functions put: a letter of a shape, and whether it is a mark.
-use Prim.Native.Nat.{ℕ}
+-- What the private functions put: a letter of a shape, and what stands before a number.
+use Prim.Native.Nat.{ℕ, zero, suc}
 use mathlib.Core.List.{List, [], _∷_}
 use Rattle.jp2_cio.specs.Table.{_=?_, Rows, otherwise, _⇒_∣_, table}
 use Rattle.jp2_text.specs.Text.{decimal}
@@ -12,3 +12,8 @@ letter b (n ∷ numbers) = table (b =? 35 ⇒ decimal n ∣ otherwise (b ∷ [])
 -- 1 for the same byte, 0 for another
 unfoldable pub marks : ℕ → ℕ → ℕ
 marks b c = table (b =? c ⇒ 1 ∣ otherwise 0)
+
+-- what stands before number i
+abbrev pub gap : ℕ → List ℕ → List ℕ
+gap zero between = []
+gap (suc i) between = between

@@ -4,8 +4,10 @@ ghost use Prim.Native.Nat.{_+_, _≤_};
 ghost use mathlib.Core.Path.{_≡_};
 ghost use mathlib.Core.List.{[], _∷_, _++_};
 ghost use lib.ListN.{length, drop};
-ghost use Rattle.jp2_text.specs.Text.{put, after, decimal, filled, behind, joined, line};
-ghost use Rattle.jp2_text.specs.Parts.{letter, marks};
+ghost use Rattle.jp2_cio.specs.Number.{least};
+ghost use Rattle.jp2_text.specs.Text.{put, after, decimal, filled, joined, line};
+ghost use Rattle.jp2_text.specs.Row.{values};
+ghost use Rattle.jp2_text.specs.Parts.{letter, marks, gap};
 
 mod quoting;
 mod utf8;
@@ -85,29 +87,51 @@ fn is(b: u8, c: u8) -> usize
 pub fn join(d: &mut [u8], at: usize, between: &[u8], numbers: &[u32]) -> usize
     ensures { λ r. ⌜ (r ≡ after (now (d .entry)) at (joined (now (between .entry)) (now (numbers .entry)))) × (now (d .exit) ≡ put (now (d .entry)) at (joined (now (between .entry)) (now (numbers .entry)))) ⌝ }
 {
-    if numbers.len() == 0 {
-        return at;
-    }
-    let mut k = number(d, at, wide(numbers[0]));
-    let mut i = 1;
+    let mut k = at;
+    let mut i = 0;
     while i < numbers.len() {
-        k = further(d, k, between, numbers[i]);
+        k = item(d, k, i, between, numbers[i]);
         i += 1;
     }
     k
 }
 
-fn further(d: &mut [u8], at: usize, between: &[u8], n: u32) -> usize
-    ensures { λ r. ⌜ (r ≡ after (now (d .entry)) at (now (between .entry) ++ decimal n)) × (now (d .exit) ≡ put (now (d .entry)) at (now (between .entry) ++ decimal n)) ⌝ }
+// Number i of some numbers.
+fn item(d: &mut [u8], at: usize, i: usize, between: &[u8], n: u32) -> usize
+    ensures { λ r. ⌜ (r ≡ after (now (d .entry)) at (gap i (now (between .entry)) ++ decimal n)) × (now (d .exit) ≡ put (now (d .entry)) at (gap i (now (between .entry)) ++ decimal n)) ⌝ }
 {
+    if i == 0 {
+        return number(d, at, n as usize);
+    }
     let k = text(d, at, between);
     number(d, k, n as usize)
 }
 
-fn wide(n: u32) -> usize
-    ensures { λ r. ⌜ r ≡ n ⌝ }
+// The values of a palette's row, a column each, with a text between two. The depths are those of the columns, and c starts with the row.
+pub fn row(d: &mut [u8], at: usize, between: &[u8], depths: &[u8], c: &[u8]) -> usize
+    ensures { λ r. ⌜ (r ≡ after (now (d .entry)) at (joined (now (between .entry)) (values (now (depths .entry)) (now (c .entry))))) × (now (d .exit) ≡ put (now (d .entry)) at (joined (now (between .entry)) (values (now (depths .entry)) (now (c .entry))))) ⌝ }
 {
-    n as usize
+    let mut k = at;
+    let mut rest = c;
+    let mut i = 0;
+    while i < depths.len() {
+        let size = jp2_palette::entry_bytes(depths[i]);
+        k = item(d, k, i, between, jp2_cio::opj_read_bytes(rest, 0, size));
+        let taken = reach(rest, size);
+        rest = &rest[taken..];
+        i += 1;
+    }
+    k
+}
+
+// n, or as many bytes as there are.
+fn reach(s: &[u8], n: usize) -> usize
+    ensures { λ r. ⌜ r ≡ least n (length (now (s .entry))) ⌝ }
+{
+    if n < s.len() {
+        return n;
+    }
+    s.len()
 }
 
 // Line n, from 0, of lines that each end in a newline; empty where it is not there.

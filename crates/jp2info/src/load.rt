@@ -1,6 +1,4 @@
 // A file by its name, into the room that is lent. Where that fails, standard error has a line with the name and the reason.
-use crate::line;
-use crate::quote;
 use libc::STDERR_FILENO;
 
 // How many bytes of the room are the file, or that there is none.
@@ -52,12 +50,12 @@ fn failed(name: &[u8]) {
 pub fn complain(name: &[u8], reason: &[u8]) {
     let mut d = io::large_buffer();
     let at = head(&mut d, name);
-    let at = line::text(&mut d, at, reason);
+    let at = jp2_text::text(&mut d, at, reason);
     io::write_all(STDERR_FILENO, jp2_cio::part(&d, 0, at));
 }
 
 // The name, of 4096 bytes at most, has room in the list even where each byte takes four.
 fn head(d: &mut [u8], name: &[u8]) -> usize {
-    let at = line::text(d, 0, b"jp2info: ");
-    quote::name_in(d, at, false, name)
+    let at = jp2_text::text(d, 0, b"jp2info: ");
+    jp2_text::quote(d, at, false, name)
 }

@@ -3,16 +3,12 @@
 ghost use mathlib.Core.Path.{_≡_};
 ghost use lib.ListN.{length};
 
-mod json;
-mod line;
+mod items;
 mod lists;
 mod load;
-mod people;
-mod quote;
+mod record;
 mod say;
 mod usage;
-mod utf8;
-mod words;
 
 use load::Loaded;
 
@@ -81,15 +77,7 @@ fn is(s: &[u8], word: &[u8]) -> bool {
 fn file(json: bool, name: &[u8], room: &mut [u8]) {
     let loaded = load::load(name, room);
     if let Loaded::Whole(n) = loaded {
-        show(json, name, jp2_cio::part(room, 0, n));
+        let file = jp2_cio::part(room, 0, n);
+        record::reading(json, name, file, jp2_file::read_file(file));
     }
-}
-
-fn show(json: bool, name: &[u8], file: &[u8]) {
-    let r = jp2_file::read_file(file);
-    if json {
-        json::reading(name, file, r);
-        return;
-    }
-    people::reading(name, file, r);
 }

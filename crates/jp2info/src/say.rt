@@ -1,10 +1,12 @@
-// Pieces of output, each written at once.
-ghost use Prim.Native.Nat.{_≤_};
-use crate::line;
+// Pieces of output, each written at once. A piece has two forms, one for people and one of JSON; where a form is empty, it says nothing of it.
 use libc::STDOUT_FILENO;
 
-pub fn text(s: &[u8]) {
-    io::write_all(STDOUT_FILENO, s);
+pub fn text(json: bool, people: &[u8], machine: &[u8]) {
+    if json {
+        io::write_all(STDOUT_FILENO, machine);
+        return;
+    }
+    io::write_all(STDOUT_FILENO, people);
 }
 
 // The end of what is said of a file. Where output no longer arrives, this is where it is noticed.
@@ -14,66 +16,54 @@ pub fn end(s: &[u8]) {
     }
 }
 
-// What stands between the items of a list, before item i.
-pub fn between(i: usize, s: &[u8]) {
-    if i != 0 {
-        text(s);
+// Shapes, in which each # stands for the next of the numbers.
+pub fn fill(json: bool, people: &[u8], machine: &[u8], numbers: &[usize]) {
+    if json {
+        filled(machine, numbers);
+        return;
     }
+    filled(people, numbers);
 }
 
-// A shape, in which each # stands for the next of the numbers.
-pub fn fill(shape: &[u8], numbers: &[usize]) {
+fn filled(shape: &[u8], numbers: &[usize]) {
     let mut d = io::buffer();
-    let n = filled(&mut d, shape, numbers);
-    line::flush(&d, n);
-}
-
-fn filled(d: &mut [u8], shape: &[u8], numbers: &[usize]) -> usize {
-    let mut k = 0;
-    let mut next = 0;
-    let mut i = 0;
-    while i < shape.len() {
-        k = letter(d, k, shape[i], numbers, next);
-        next = next + is(shape[i], b'#');
-        i += 1;
-    }
-    k
-}
-
-fn letter(d: &mut [u8], at: usize, b: u8, numbers: &[usize], next: usize) -> usize {
-    if b == b'#' && next < numbers.len() {
-        return line::decimal(d, at, numbers[next]);
-    }
-    line::byte(d, at, b)
-}
-
-// 1 or 0.
-fn is(b: u8, c: u8) -> usize
-    ensures { λ r. ⌜ r ≤ 1 ⌝ }
-{
-    if b == c { 1 } else { 0 }
+    let n = jp2_text::fill(&mut d, 0, shape, numbers);
+    io::write_all(STDOUT_FILENO, jp2_cio::part(&d, 0, n));
 }
 
 // Line n of some lines, from 0; "unknown" where it is empty or not there.
-pub fn pick(n: u32, lines: &[u8]) {
-    let end = start(lines, n as usize + 1);
-    if end == 0 {
+pub fn word(n: u32, lines: &[u8]) {
+    let s = jp2_text::line(lines, n as usize);
+    if s.len() == 0 {
+        io::write_all(STDOUT_FILENO, b"unknown");
         return;
     }
-    let s = jp2_cio::part(lines, start(lines, n as usize), end - 1);
-    if s.len() == 0 {
-        text(b"unknown");
-    }
-    text(s);
+    io::write_all(STDOUT_FILENO, s);
 }
 
-// Where line n starts, or the end of the lines.
-fn start(lines: &[u8], n: usize) -> usize {
-    let mut passed = 0;
-    let mut i = 0;
-    while i < lines.len() && passed < n {
-        passed = passed + is(lines[i], b'\n');
-        i += 1;
+// The same, for people alone.
+pub fn note(json: bool, n: u32, lines: &[u8]) {
+    if !json {
+        word(n, lines);
     }
-    i
+}
+
+// A text from outside: a file's name, of 4096 bytes at most, or a brand. It has room even where each byte takes six.
+pub fn quote(json: bool, s: &[u8]) {
+    let mut d = io::large_buffer();
+    let n = jp2_text::quote(&mut d, 0, json, s);
+    io::write_all(STDOUT_FILENO, jp2_cio::part(&d, 0, n));
+}
+
+// The values of a palette's row: 255 at most, of ten digits at most.
+pub fn row(between: &[u8], depths: &[u8], c: &[u8]) {
+    let mut d = io::buffer();
+    let n = jp2_text::row(&mut d, 0, between, depths, c);
+    io::write_all(STDOUT_FILENO, jp2_cio::part(&d, 0, n));
+}
+
+pub fn join(between: &[u8], numbers: &[u32]) {
+    let mut d = io::buffer();
+    let n = jp2_text::join(&mut d, 0, between, numbers);
+    io::write_all(STDOUT_FILENO, jp2_cio::part(&d, 0, n));
 }

@@ -1,10 +1,10 @@
--- `jp2info::lists::items` is safe and ends: the items that are left fall.
+-- `jp2info::lists::each` is safe and ends: the items that are left fall.
 -- Assumes nothing.
 use Prim.Native.Nat.{_-_}
 use native.Mathlib.Omega.{arith}
 use borrow.Author.Needs.{needs}
-use Rattle.jp2info.proofs.lists.items.Statement.{statement}
-use Rattle.jp2info.proofs.lists.items.Tie as tie
+use Rattle.jp2info.proofs.lists.each.Statement.{statement}
+use Rattle.jp2info.proofs.lists.each.Tie as tie
 
 abbrev Inv-loop : tie.InvT-loop
 Inv-loop json item list n rest₀ i₀ rest i = Unit {0}
@@ -45,8 +45,8 @@ loop-again c = tt
 returns : tie.Need-returns Inv-loop μ-loop
 returns c = search needs
 
-pub items-spec : {M : Type 1} → statement M
-items-spec =
+pub each-spec : {M : Type 1} → statement M
+each-spec =
     tie.close
     (tie.spec
     Inv-loop

@@ -1,0 +1,330 @@
+// What is said of a file: for people its name, then a field a line, a line's end before the next line; or one line of JSON.
+// In JSON a box that the record has nothing of is null, and a list without items is empty. Numbers are as they stand in the file.
+use crate::items;
+use crate::items::Item;
+use crate::lists;
+use crate::say;
+use crate::say::fill;
+use crate::say::note;
+use crate::say::text;
+use crate::say::word;
+use jp2_file::FileAnswer;
+use jp2_file::Reading;
+use jp2_record::Colour;
+use jp2_record::FileType;
+use jp2_record::Image;
+use jp2_record::Jp2;
+use jp2_record::Lab;
+use jp2_record::Palette;
+use jp2_record::Span;
+
+pub fn reading(json: bool, name: &[u8], file: &[u8], r: Reading) {
+    text(json, b"", b"{\"file\":\"");
+    say::quote(json, name);
+    outcome(json, file, r);
+    if json {
+        say::end(b"}\n");
+        return;
+    }
+    say::end(b"\n");
+}
+
+// Where reading ended comes before the record in JSON, and after it for people.
+fn outcome(json: bool, file: &[u8], r: Reading) {
+    let answer = r.answer;
+    if let FileAnswer::Refused(n, place) = answer {
+        refused(json, n, place);
+        return;
+    }
+    if json {
+        codestream(json, answer);
+        record(json, file, r.jp2);
+        return;
+    }
+    record(json, file, r.jp2);
+    codestream(json, answer);
+}
+
+fn codestream(json: bool, answer: FileAnswer) {
+    if let FileAnswer::Codestream(offset) = answer {
+        fill(
+            json,
+            b"\n  codestream: at #",
+            b"\",\"answer\":\"codestream\",\"codestream\":#",
+            &[offset as usize],
+        );
+        return;
+    }
+    text(
+        json,
+        b"\n  codestream: none, ended",
+        b"\",\"answer\":\"ended\",\"codestream\":null",
+    );
+}
+
+// Why a file is turned down, from 0: the numbers 1 to 24 of document 01's table.
+fn refused(json: bool, n: u32, place: u32) {
+    fill(
+        json,
+        b"\n  refused: #, ",
+        b"\",\"answer\":\"refused\",\"number\":#,\"cause\":\"",
+        &[n as usize],
+    );
+    word(
+        n,
+        b"\n\
+        file over 4294967295 bytes\n\
+        codestream without header bit\n\
+        length below own header\n\
+        content past the file\n\
+        other box before signature bit\n\
+        other box before file type bit\n\
+        jP: state not 0, not 4 bytes, or not 0x0d0a870a\n\
+        ftyp: state not 1, under 8 bytes, or rest not fours\n\
+        jp2h without file type bit\n\
+        child header cut, length field 0, or high word not 0\n\
+        child length below header or past jp2h\n\
+        jp2h lacks ihdr\n\
+        ihdr not 14 bytes\n\
+        zero height, width or count\n\
+        count over 16384\n\
+        colr under 3 bytes, or method 1 with under 4 left\n\
+        bpcc length not the count\n\
+        second pclr, cmap or cdef\n\
+        pclr entries 0 or over 1024, or columns 0\n\
+        pclr under 3 bytes, or widths or entries short\n\
+        cmap without pclr\n\
+        cmap short\n\
+        cdef under 2 bytes or short\n\
+        cdef count 0\n",
+    );
+    fill(json, b", box at #", b"\",\"place\":#", &[place as usize]);
+}
+
+fn record(json: bool, file: &[u8], jp2: Jp2) {
+    let l = jp2.lists;
+    filetype(json, file, jp2.filetype, l.cl);
+    image(json, jp2.image);
+    lists::list(
+        json,
+        b"\n  BPCC:",
+        b",\"bpcc\":[",
+        Item::Component,
+        file,
+        l.bpcc,
+    );
+    colour(json, jp2.colour, l.icc);
+    pclr(json, file, l.pclr);
+    lists::list(
+        json,
+        b"\n  cmap:",
+        b",\"cmap\":[",
+        Item::Mapping,
+        file,
+        l.cmap,
+    );
+    lists::list(
+        json,
+        b"\n  cdef:",
+        b",\"cdef\":[",
+        Item::Definition,
+        file,
+        l.cdef,
+    );
+}
+
+fn filetype(json: bool, file: &[u8], t: FileType, cl: Span) {
+    if is_typeless(t, cl) {
+        text(json, b"\n  ftyp: none", b",\"ftyp\":null");
+        return;
+    }
+    let mut brand = [0u8; 4];
+    jp2_cio::opj_write_bytes(&mut brand, 0, t.brand, 4);
+    text(json, b"\n  BR:", b",\"ftyp\":{\"BR\":");
+    items::code(json, &brand);
+    fill(
+        json,
+        b"\n  MinV: #\n  CL:",
+        b",\"MinV\":#",
+        &[t.minversion as usize],
+    );
+    lists::list(json, b"", b",\"CL\":[", Item::Code, file, cl);
+    text(json, b"", b"}");
+}
+
+// Whether the record has nothing of an ftyp box, or only one of zeros.
+fn is_typeless(t: FileType, cl: Span) -> bool {
+    if cl.count != 0 {
+        return false;
+    }
+    t.brand == 0 && t.minversion == 0
+}
+
+fn image(json: bool, image: Image) {
+    if image.numcomps == 0 {
+        text(json, b"\n  ihdr: none", b",\"ihdr\":null");
+        return;
+    }
+    fill(
+        json,
+        b"\n  HEIGHT: #\
+        \n  WIDTH: #\
+        \n  NC: #\
+        \n  BPC: # (",
+        b",\"ihdr\":{\"HEIGHT\":#,\"WIDTH\":#,\"NC\":#,\"BPC\":#",
+        &[
+            image.h as usize,
+            image.w as usize,
+            image.numcomps as usize,
+            image.bpc as usize,
+        ],
+    );
+    bpc(json, image.bpc);
+    fill(
+        json,
+        b"\
+        \n  C: #\
+        \n  UnkC: #\
+        \n  IPR: #",
+        b",\"C\":#,\"UnkC\":#,\"IPR\":#}",
+        &[image.c as usize, image.unkc as usize, image.ipr as usize],
+    );
+}
+
+fn bpc(json: bool, b: u32) {
+    if b == 255 {
+        text(json, b"the components differ)", b"");
+        return;
+    }
+    fill(json, b"# bits, ", b"", &[b as usize % 128 + 1]);
+    note(json, b / 128, b"unsigned)\nsigned)\n");
+}
+
+fn colour(json: bool, colour: Colour, icc: Span) {
+    if is_colourless(colour) {
+        text(json, b"\n  colr: none", b",\"colr\":null");
+        return;
+    }
+    fill(
+        json,
+        b"\n  METH: # (",
+        b",\"colr\":{\"METH\":#",
+        &[colour.meth as usize],
+    );
+    note(
+        json,
+        colour.meth,
+        b"\n\
+        enumerated colour space\n\
+        ICC profile\n",
+    );
+    fill(
+        json,
+        b")\
+        \n  PREC: #\
+        \n  APPROX: #",
+        b",\"PREC\":#,\"APPROX\":#",
+        &[colour.precedence as usize, colour.approx as usize],
+    );
+    content(json, colour, icc);
+    text(json, b"", b"}");
+}
+
+// Whether the record has nothing of a colr box, or only one of zeros.
+fn is_colourless(c: Colour) -> bool {
+    if c.held != 0 {
+        return false;
+    }
+    c.meth == 0 && c.precedence == 0 && c.approx == 0
+}
+
+fn content(json: bool, colour: Colour, icc: Span) {
+    if colour.meth == 1 {
+        space(json, colour.enumcs, colour.lab);
+        return;
+    }
+    if colour.meth == 2 {
+        fill(json, b"\n  PROFILE: # bytes", b"", &[icc.count]);
+        fill(json, b" at #", b",\"PROFILE\":{\"place\":#", &[icc.place]);
+        fill(json, b"", b",\"size\":#}", &[icc.count]);
+    }
+}
+
+// EnumCS, from 0: I.5.3.3, and Annex M of ISO/IEC 15444-2.
+fn space(json: bool, enumcs: u32, l: Lab) {
+    fill(
+        json,
+        b"\n  EnumCS: # (",
+        b",\"EnumCS\":#,\"space\":\"",
+        &[enumcs as usize],
+    );
+    word(
+        enumcs,
+        b"bi-level\n\
+        YCbCr(1)\n\
+        \n\
+        YCbCr(2)\n\
+        YCbCr(3)\n\
+        \n\
+        \n\
+        \n\
+        \n\
+        PhotoYCC\n\
+        \n\
+        CMY\n\
+        CMYK\n\
+        YCCK\n\
+        CIELab\n\
+        bi-level(2)\n\
+        sRGB\n\
+        greyscale\n\
+        sYCC\n\
+        CIEJab\n\
+        e-sRGB\n\
+        ROMM-RGB\n\
+        YPbCr(1125/60)\n\
+        YPbCr(1250/50)\n\
+        e-sYCC\n",
+    );
+    text(json, b")", b"\"");
+    lab(json, l);
+}
+
+// The numbers of CIELab, as many of them as count.
+fn lab(json: bool, l: Lab) {
+    let numbers = l.numbers;
+    let n = l.count as usize;
+    if n == 0 {
+        return;
+    }
+    if json {
+        text(json, b"", b",\"CIELab\":[");
+        say::join(b",", first(&numbers, n));
+        text(json, b"", b"]");
+        return;
+    }
+    text(json, b"\n  CIELab: ", b"");
+    say::join(b" ", first(&numbers, n));
+}
+
+fn first(numbers: &[u32], n: usize) -> &[u32] {
+    if numbers.len() < n {
+        return numbers;
+    }
+    &numbers[..n]
+}
+
+fn pclr(json: bool, file: &[u8], p: Palette) {
+    if p.columns == 0 {
+        text(json, b"", b",\"pclr\":null");
+        return;
+    }
+    fill(
+        json,
+        b"\n  pclr: NE #, NPC #",
+        b",\"pclr\":{\"NE\":#,\"NPC\":#,\"columns\":[",
+        &[p.entries as usize, p.columns as usize],
+    );
+    lists::palette(json, file, p);
+    text(json, b"", b"]}");
+}
