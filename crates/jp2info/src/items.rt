@@ -1,8 +1,9 @@
 // What a list of a record has: entries of CL, depths of BPCC or of a palette's columns, mappings of cmap, definitions of cdef.
-use crate::say::fill;
+use crate::say;
+use crate::say::field;
 use crate::say::note;
-use crate::say::quote;
-use crate::say::text;
+use crate::say::number;
+use crate::say::pair;
 
 pub enum Item {
     Code,
@@ -27,14 +28,8 @@ pub fn show(json: bool, item: Item, i: usize, c: &[u8]) {
     comma(json, i);
     match item {
         Item::Code => code(json, c),
-        Item::Component => depth(json, b"\n    component #: ", b"#", i, c),
-        Item::Column => depth(
-            json,
-            b"\n    B #: ",
-            b"{\"B\":#,\"bits\":#,\"sign\":#}",
-            i,
-            c,
-        ),
+        Item::Component => component(json, i, c),
+        Item::Column => column(json, i, c),
         Item::Mapping => mapping(json, i, c),
         Item::Definition => definition(json, c),
     }
@@ -43,76 +38,95 @@ pub fn show(json: bool, item: Item, i: usize, c: &[u8]) {
 // What stands before item i of a list of JSON.
 pub fn comma(json: bool, i: usize) {
     if i != 0 {
-        text(json, b"", b",");
+        say::machine(json, b",");
     }
 }
 
 // The four letters of a brand.
 pub fn code(json: bool, c: &[u8]) {
-    text(json, b" '", b"\"");
-    quote(json, jp2_cio::part(c, 0, 4));
-    text(json, b"'", b"\"");
+    say::text(json, b" '", b"\"");
+    say::quote(json, jp2_cio::part(c, 0, 4));
+    say::text(json, b"'", b"\"");
 }
 
-fn depth(json: bool, people: &[u8], machine: &[u8], i: usize, c: &[u8]) {
+fn component(json: bool, i: usize, c: &[u8]) {
     let b = jp2_cio::read_u8(c, 0) as usize;
-    fill(json, people, b"", &[i]);
-    fill(json, b"# (# bits, ", machine, &[b, b % 128 + 1, b / 128]);
-    note(json, (b / 128) as u32, b"unsigned)\nsigned)\n");
+    number(json, b"\n    component #: ", i);
+    field(json, b"# (", b"#", b);
+    depth(json, b);
+}
+
+fn column(json: bool, i: usize, c: &[u8]) {
+    let b = jp2_cio::read_u8(c, 0) as usize;
+    field(json, b"\n    B #: ", b"{\"B\":", i);
+    field(json, b"# (", b"#", b);
+    field(json, b"# bits, ", b",\"bits\":#", b % 128 + 1);
+    field(json, b"", b",\"sign\":#}", b / 128);
+    sign(json, b / 128);
+}
+
+// What a byte of BPC or BPCC says, for people.
+pub fn depth(json: bool, b: usize) {
+    number(json, b"# bits, ", b % 128 + 1);
+    sign(json, b / 128);
+}
+
+fn sign(json: bool, sign: usize) {
+    note(json, sign, b"unsigned)\nsigned)\n");
 }
 
 fn mapping(json: bool, i: usize, c: &[u8]) {
-    let cmp = jp2_cio::read_u16(c, 0) as usize;
     let mtyp = jp2_cio::read_u8(c, 2);
-    let pcol = jp2_cio::read_u8(c, 3) as usize;
-    fill(json, b"\n    channel #: ", b"", &[i]);
-    fill(
+    field(json, b"\n    channel #: ", b"{", i);
+    pair(
         json,
         b"CMP #, MTYP # (",
-        b"{\"CMP\":#,\"MTYP\":#",
-        &[cmp, mtyp as usize],
+        b"\"CMP\":#,\"MTYP\":#",
+        jp2_cio::read_u16(c, 0) as u32,
+        mtyp as u32,
     );
-    note(json, mtyp as u32, b"direct\npalette\n");
-    fill(json, b"), PCOL #", b",\"PCOL\":#}", &[pcol]);
+    note(json, mtyp as usize, b"direct\npalette\n");
+    field(
+        json,
+        b"), PCOL #",
+        b",\"PCOL\":#}",
+        jp2_cio::read_u8(c, 3) as usize,
+    );
 }
 
 fn definition(json: bool, c: &[u8]) {
-    let cn = jp2_cio::read_u16(c, 0) as usize;
     let typ = jp2_cio::read_u16(c, 2);
     let asoc = jp2_cio::read_u16(c, 4);
-    fill(
+    pair(
         json,
         b"\n    Cn #, Typ # (",
         b"{\"Cn\":#,\"Typ\":#",
-        &[cn, typ as usize],
+        jp2_cio::read_u16(c, 0) as u32,
+        typ as u32,
     );
-    channel(json, typ);
-    fill(json, b"), Asoc # (", b",\"Asoc\":#}", &[asoc as usize]);
-    association(json, asoc);
+    channel(json, typ as usize);
+    field(json, b"), Asoc # (", b",\"Asoc\":#}", asoc as usize);
+    association(json, asoc as usize);
 }
 
 // Typ.
-fn channel(json: bool, typ: u16) {
+fn channel(json: bool, typ: usize) {
     if typ == 65535 {
-        text(json, b"unspecified", b"");
+        say::people(json, b"unspecified");
         return;
     }
-    note(
-        json,
-        typ as u32,
-        b"colour\nopacity\npremultiplied opacity\n",
-    );
+    note(json, typ, b"colour\nopacity\npremultiplied opacity\n");
 }
 
 // Asoc.
-fn association(json: bool, asoc: u16) {
+fn association(json: bool, asoc: usize) {
     if asoc == 0 {
-        text(json, b"whole image)", b"");
+        say::people(json, b"whole image)");
         return;
     }
     if asoc == 65535 {
-        text(json, b"unassociated)", b"");
+        say::people(json, b"unassociated)");
         return;
     }
-    fill(json, b"colour #)", b"", &[asoc as usize]);
+    number(json, b"colour #)", asoc);
 }

@@ -11,12 +11,12 @@ pub fn list(json: bool, people: &[u8], machine: &[u8], item: Item, file: &[u8], 
     head(json, people, machine, list.count);
     let c = jp2_cio::part(file, list.place, file.len());
     each(json, item, c, list.count);
-    say::text(json, b"", b"]");
+    say::machine(json, b"]");
 }
 
 fn head(json: bool, people: &[u8], machine: &[u8], n: usize) {
     if n == 0 {
-        say::text(json, b"", machine);
+        say::machine(json, machine);
         return;
     }
     say::text(json, people, machine);
@@ -40,20 +40,25 @@ fn front(rest: &[u8], n: usize) -> usize
     if n < rest.len() { n } else { rest.len() }
 }
 
-// The depths of a palette's columns, and its rows, which follow the depths. NPC has one byte.
-pub fn palette(json: bool, file: &[u8], p: Palette) {
+// The depths of a palette's columns.
+pub fn columns(json: bool, file: &[u8], p: Palette) {
     let list = jp2_cio::part(file, p.place, file.len());
-    let n = if p.columns < 256 {
-        p.columns as u8
-    } else {
-        255
-    };
-    each(json, Item::Column, list, n as usize);
-    say::text(json, b"", b"],\"entries\":[");
+    each(json, Item::Column, list, p.columns as usize);
+}
+
+// The rows of a palette, which follow the depths.
+pub fn entries(json: bool, file: &[u8], p: Palette) {
+    let list = jp2_cio::part(file, p.place, file.len());
+    let n = narrow(p.columns);
     let depths = jp2_cio::part(list, 0, n as usize);
     let size = jp2_palette::row_bytes(depths, 0, n);
     let rest = jp2_cio::part(list, n as usize, list.len());
     rows(json, depths, rest, size, p.entries as usize);
+}
+
+// NPC has one byte.
+fn narrow(columns: u32) -> u8 {
+    if columns < 256 { columns as u8 } else { 255 }
 }
 
 // n rows of so many bytes each.
@@ -71,12 +76,7 @@ fn rows(json: bool, depths: &[u8], list: &[u8], size: usize, n: usize) {
 // Row i, which stands in front of the list.
 fn row(json: bool, i: usize, depths: &[u8], list: &[u8]) {
     items::comma(json, i);
-    if json {
-        say::text(json, b"", b"[");
-        say::row(b",", depths, list);
-        say::text(json, b"", b"]");
-        return;
-    }
-    say::fill(json, b"\n    entry #: ", b"", &[i]);
-    say::row(b" ", depths, list);
+    say::field(json, b"\n    entry #: ", b"[", i);
+    say::row(json, depths, list);
+    say::machine(json, b"]");
 }

@@ -4,8 +4,10 @@ use crate::items;
 use crate::items::Item;
 use crate::lists;
 use crate::say;
-use crate::say::fill;
+use crate::say::field;
+use crate::say::machine;
 use crate::say::note;
+use crate::say::pair;
 use crate::say::text;
 use crate::say::word;
 use jp2_file::FileAnswer;
@@ -19,7 +21,7 @@ use jp2_record::Palette;
 use jp2_record::Span;
 
 pub fn reading(json: bool, name: &[u8], file: &[u8], r: Reading) {
-    text(json, b"", b"{\"file\":\"");
+    machine(json, b"{\"file\":\"");
     say::quote(json, name);
     outcome(json, file, r);
     if json {
@@ -47,11 +49,11 @@ fn outcome(json: bool, file: &[u8], r: Reading) {
 
 fn codestream(json: bool, answer: FileAnswer) {
     if let FileAnswer::Codestream(offset) = answer {
-        fill(
+        field(
             json,
             b"\n  codestream: at #",
             b"\",\"answer\":\"codestream\",\"codestream\":#",
-            &[offset as usize],
+            offset as usize,
         );
         return;
     }
@@ -64,14 +66,14 @@ fn codestream(json: bool, answer: FileAnswer) {
 
 // Why a file is turned down, from 0: the numbers 1 to 24 of document 01's table.
 fn refused(json: bool, n: u32, place: u32) {
-    fill(
+    field(
         json,
         b"\n  refused: #, ",
         b"\",\"answer\":\"refused\",\"number\":#,\"cause\":\"",
-        &[n as usize],
+        n as usize,
     );
     word(
-        n,
+        n as usize,
         b"\n\
         file over 4294967295 bytes\n\
         codestream without header bit\n\
@@ -98,7 +100,7 @@ fn refused(json: bool, n: u32, place: u32) {
         cdef under 2 bytes or short\n\
         cdef count 0\n",
     );
-    fill(json, b", box at #", b"\",\"place\":#", &[place as usize]);
+    field(json, b", box at #", b"\",\"place\":#", place as usize);
 }
 
 fn record(json: bool, file: &[u8], jp2: Jp2) {
@@ -138,18 +140,16 @@ fn filetype(json: bool, file: &[u8], t: FileType, cl: Span) {
         text(json, b"\n  ftyp: none", b",\"ftyp\":null");
         return;
     }
-    let mut brand = [0u8; 4];
-    jp2_cio::opj_write_bytes(&mut brand, 0, t.brand, 4);
     text(json, b"\n  BR:", b",\"ftyp\":{\"BR\":");
-    items::code(json, &brand);
-    fill(
+    brand(json, t.brand);
+    field(
         json,
         b"\n  MinV: #\n  CL:",
         b",\"MinV\":#",
-        &[t.minversion as usize],
+        t.minversion as usize,
     );
     lists::list(json, b"", b",\"CL\":[", Item::Code, file, cl);
-    text(json, b"", b"}");
+    machine(json, b"}");
 }
 
 // Whether the record has nothing of an ftyp box, or only one of zeros.
@@ -160,44 +160,48 @@ fn is_typeless(t: FileType, cl: Span) -> bool {
     t.brand == 0 && t.minversion == 0
 }
 
+fn brand(json: bool, n: u32) {
+    let mut letters = [0u8; 4];
+    jp2_cio::opj_write_bytes(&mut letters, 0, n, 4);
+    items::code(json, &letters);
+}
+
 fn image(json: bool, image: Image) {
     if image.numcomps == 0 {
         text(json, b"\n  ihdr: none", b",\"ihdr\":null");
         return;
     }
-    fill(
+    pair(
         json,
-        b"\n  HEIGHT: #\
-        \n  WIDTH: #\
-        \n  NC: #\
-        \n  BPC: # (",
-        b",\"ihdr\":{\"HEIGHT\":#,\"WIDTH\":#,\"NC\":#,\"BPC\":#",
-        &[
-            image.h as usize,
-            image.w as usize,
-            image.numcomps as usize,
-            image.bpc as usize,
-        ],
+        b"\n  HEIGHT: #\n  WIDTH: #",
+        b",\"ihdr\":{\"HEIGHT\":#,\"WIDTH\":#",
+        image.h,
+        image.w,
+    );
+    pair(
+        json,
+        b"\n  NC: #\n  BPC: # (",
+        b",\"NC\":#,\"BPC\":#",
+        image.numcomps,
+        image.bpc,
     );
     bpc(json, image.bpc);
-    fill(
+    pair(
         json,
-        b"\
-        \n  C: #\
-        \n  UnkC: #\
-        \n  IPR: #",
-        b",\"C\":#,\"UnkC\":#,\"IPR\":#}",
-        &[image.c as usize, image.unkc as usize, image.ipr as usize],
+        b"\n  C: #\n  UnkC: #",
+        b",\"C\":#,\"UnkC\":#",
+        image.c,
+        image.unkc,
     );
+    field(json, b"\n  IPR: #", b",\"IPR\":#}", image.ipr as usize);
 }
 
 fn bpc(json: bool, b: u32) {
     if b == 255 {
-        text(json, b"the components differ)", b"");
+        say::people(json, b"the components differ)");
         return;
     }
-    fill(json, b"# bits, ", b"", &[b as usize % 128 + 1]);
-    note(json, b / 128, b"unsigned)\nsigned)\n");
+    items::depth(json, b as usize);
 }
 
 fn colour(json: bool, colour: Colour, icc: Span) {
@@ -205,29 +209,16 @@ fn colour(json: bool, colour: Colour, icc: Span) {
         text(json, b"\n  colr: none", b",\"colr\":null");
         return;
     }
-    fill(
+    method(json, colour.meth);
+    pair(
         json,
-        b"\n  METH: # (",
-        b",\"colr\":{\"METH\":#",
-        &[colour.meth as usize],
-    );
-    note(
-        json,
-        colour.meth,
-        b"\n\
-        enumerated colour space\n\
-        ICC profile\n",
-    );
-    fill(
-        json,
-        b")\
-        \n  PREC: #\
-        \n  APPROX: #",
+        b"\n  PREC: #\n  APPROX: #",
         b",\"PREC\":#,\"APPROX\":#",
-        &[colour.precedence as usize, colour.approx as usize],
+        colour.precedence,
+        colour.approx,
     );
     content(json, colour, icc);
-    text(json, b"", b"}");
+    machine(json, b"}");
 }
 
 // Whether the record has nothing of a colr box, or only one of zeros.
@@ -238,28 +229,56 @@ fn is_colourless(c: Colour) -> bool {
     c.meth == 0 && c.precedence == 0 && c.approx == 0
 }
 
+fn method(json: bool, meth: u32) {
+    field(
+        json,
+        b"\n  METH: # (",
+        b",\"colr\":{\"METH\":#",
+        meth as usize,
+    );
+    note(
+        json,
+        meth as usize,
+        b"\n\
+        enumerated colour space\n\
+        ICC profile\n",
+    );
+    say::people(json, b")");
+}
+
 fn content(json: bool, colour: Colour, icc: Span) {
     if colour.meth == 1 {
-        space(json, colour.enumcs, colour.lab);
+        space(json, colour.enumcs);
+        lab(json, colour.lab);
         return;
     }
     if colour.meth == 2 {
-        fill(json, b"\n  PROFILE: # bytes", b"", &[icc.count]);
-        fill(json, b" at #", b",\"PROFILE\":{\"place\":#", &[icc.place]);
-        fill(json, b"", b",\"size\":#}", &[icc.count]);
+        profile(json, icc.place, icc.count);
     }
 }
 
+// People are told the size first.
+fn profile(json: bool, place: usize, size: usize) {
+    field(
+        json,
+        b"\n  PROFILE: # bytes at ",
+        b",\"PROFILE\":{\"place\":",
+        size,
+    );
+    field(json, b"#", b"#", place);
+    field(json, b"", b",\"size\":#}", size);
+}
+
 // EnumCS, from 0: I.5.3.3, and Annex M of ISO/IEC 15444-2.
-fn space(json: bool, enumcs: u32, l: Lab) {
-    fill(
+fn space(json: bool, enumcs: u32) {
+    field(
         json,
         b"\n  EnumCS: # (",
         b",\"EnumCS\":#,\"space\":\"",
-        &[enumcs as usize],
+        enumcs as usize,
     );
     word(
-        enumcs,
+        enumcs as usize,
         b"bi-level\n\
         YCbCr(1)\n\
         \n\
@@ -287,24 +306,17 @@ fn space(json: bool, enumcs: u32, l: Lab) {
         e-sYCC\n",
     );
     text(json, b")", b"\"");
-    lab(json, l);
 }
 
 // The numbers of CIELab, as many of them as count.
 fn lab(json: bool, l: Lab) {
+    if l.count == 0 {
+        return;
+    }
+    text(json, b"\n  CIELab: ", b",\"CIELab\":[");
     let numbers = l.numbers;
-    let n = l.count as usize;
-    if n == 0 {
-        return;
-    }
-    if json {
-        text(json, b"", b",\"CIELab\":[");
-        say::join(b",", first(&numbers, n));
-        text(json, b"", b"]");
-        return;
-    }
-    text(json, b"\n  CIELab: ", b"");
-    say::join(b" ", first(&numbers, n));
+    say::join(json, first(&numbers, l.count as usize));
+    machine(json, b"]");
 }
 
 fn first(numbers: &[u32], n: usize) -> &[u32] {
@@ -316,15 +328,18 @@ fn first(numbers: &[u32], n: usize) -> &[u32] {
 
 fn pclr(json: bool, file: &[u8], p: Palette) {
     if p.columns == 0 {
-        text(json, b"", b",\"pclr\":null");
+        machine(json, b",\"pclr\":null");
         return;
     }
-    fill(
+    pair(
         json,
         b"\n  pclr: NE #, NPC #",
         b",\"pclr\":{\"NE\":#,\"NPC\":#,\"columns\":[",
-        &[p.entries as usize, p.columns as usize],
+        p.entries,
+        p.columns,
     );
-    lists::palette(json, file, p);
-    text(json, b"", b"]}");
+    lists::columns(json, file, p);
+    machine(json, b"],\"entries\":[");
+    lists::entries(json, file, p);
+    machine(json, b"]}");
 }

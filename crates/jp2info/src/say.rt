@@ -1,4 +1,4 @@
-// Pieces of output, each written at once. A piece has two forms, one for people and one of JSON; where a form is empty, it says nothing of it.
+// Pieces of output, each written at once. A piece has two forms, one for people and one of JSON.
 use libc::STDOUT_FILENO;
 
 pub fn text(json: bool, people: &[u8], machine: &[u8]) {
@@ -9,6 +9,18 @@ pub fn text(json: bool, people: &[u8], machine: &[u8]) {
     io::write_all(STDOUT_FILENO, people);
 }
 
+pub fn people(json: bool, s: &[u8]) {
+    if !json {
+        io::write_all(STDOUT_FILENO, s);
+    }
+}
+
+pub fn machine(json: bool, s: &[u8]) {
+    if json {
+        io::write_all(STDOUT_FILENO, s);
+    }
+}
+
 // The end of what is said of a file. Where output no longer arrives, this is where it is noticed.
 pub fn end(s: &[u8]) {
     if !io::write_all(STDOUT_FILENO, s) {
@@ -16,24 +28,40 @@ pub fn end(s: &[u8]) {
     }
 }
 
-// Shapes, in which each # stands for the next of the numbers.
-pub fn fill(json: bool, people: &[u8], machine: &[u8], numbers: &[usize]) {
+// Shapes, in which # stands for the number.
+pub fn field(json: bool, people: &[u8], machine: &[u8], n: usize) {
     if json {
-        filled(machine, numbers);
+        filled(machine, n, 0);
         return;
     }
-    filled(people, numbers);
+    filled(people, n, 0);
 }
 
-fn filled(shape: &[u8], numbers: &[usize]) {
+// A shape for people alone.
+pub fn number(json: bool, shape: &[u8], n: usize) {
+    if !json {
+        filled(shape, n, 0);
+    }
+}
+
+// Shapes with two numbers.
+pub fn pair(json: bool, people: &[u8], machine: &[u8], a: u32, b: u32) {
+    if json {
+        filled(machine, a as usize, b as usize);
+        return;
+    }
+    filled(people, a as usize, b as usize);
+}
+
+fn filled(shape: &[u8], a: usize, b: usize) {
     let mut d = io::buffer();
-    let n = jp2_text::fill(&mut d, 0, shape, numbers);
+    let n = jp2_text::fill(&mut d, 0, shape, &[a, b]);
     io::write_all(STDOUT_FILENO, jp2_cio::part(&d, 0, n));
 }
 
 // Line n of some lines, from 0; "unknown" where it is empty or not there.
-pub fn word(n: u32, lines: &[u8]) {
-    let s = jp2_text::line(lines, n as usize);
+pub fn word(n: usize, lines: &[u8]) {
+    let s = jp2_text::line(lines, n);
     if s.len() == 0 {
         io::write_all(STDOUT_FILENO, b"unknown");
         return;
@@ -42,7 +70,7 @@ pub fn word(n: u32, lines: &[u8]) {
 }
 
 // The same, for people alone.
-pub fn note(json: bool, n: u32, lines: &[u8]) {
+pub fn note(json: bool, n: usize, lines: &[u8]) {
     if !json {
         word(n, lines);
     }
@@ -56,14 +84,19 @@ pub fn quote(json: bool, s: &[u8]) {
 }
 
 // The values of a palette's row: 255 at most, of ten digits at most.
-pub fn row(between: &[u8], depths: &[u8], c: &[u8]) {
+pub fn row(json: bool, depths: &[u8], c: &[u8]) {
     let mut d = io::buffer();
-    let n = jp2_text::row(&mut d, 0, between, depths, c);
+    let n = jp2_text::row(&mut d, 0, &[between(json)], depths, c);
     io::write_all(STDOUT_FILENO, jp2_cio::part(&d, 0, n));
 }
 
-pub fn join(between: &[u8], numbers: &[u32]) {
+pub fn join(json: bool, numbers: &[u32]) {
     let mut d = io::buffer();
-    let n = jp2_text::join(&mut d, 0, between, numbers);
+    let n = jp2_text::join(&mut d, 0, &[between(json)], numbers);
     io::write_all(STDOUT_FILENO, jp2_cio::part(&d, 0, n));
+}
+
+// What stands between two numbers.
+fn between(json: bool) -> u8 {
+    if json { b',' } else { b' ' }
 }
