@@ -1,20 +1,26 @@
 // Box headers, in the file and inside jp2h.
 use crate::kinds;
-use crate::numbers::FAR;
-use crate::say;
+use crate::say::bytes;
+use crate::say::hex;
+use crate::say::say;
+use crate::say::text;
 use jp2_box::Jp2BoxHeader;
 use jp2_box::ReadHeader;
 use jp2_kind::Jp2BoxType;
 
 const MOST: u32 = 0xffffffff;
 
+// The last place that a usize can name.
+const FAR: usize = 0xffff_ffff_ffff_ffff;
+
 pub fn all() {
     // a header that is cut is told before a high word, and before a length of 0 inside jp2h
     each_beginning(b"\x00\x00\x00\x01jp2c\x00\x00\x00\x01\x00\x00\x00\x10");
     each_beginning(b"\x00\x00\x00\x00jp2c");
-    plain_lengths();
-    extended_lengths();
-    made();
+    contents();
+    new(Jp2BoxType::JP2H);
+    new(Jp2BoxType::Unknown(0x75756964));
+    new(Jp2BoxType::None);
     content_lengths();
     nexts();
     writes();
@@ -29,38 +35,47 @@ fn each_beginning(s: &[u8]) {
     read(s);
 }
 
-fn plain_lengths() {
-    read(b"\x00\x00\x00\x00jp2c\xff\x4f");
-    read(b"\x00\x00\x00\x02jP  ");
-    read(b"\x00\x00\x00\x03ftyp");
-    read(b"\x00\x00\x00\x04jp2h");
-    read(b"\x00\x00\x00\x05ihdr");
-    read(b"\x00\x00\x00\x06colr");
-    read(b"\x00\x00\x00\x07uuid");
-    read(b"\x00\x00\x00\x08\x75\x75\x69\x94");
-    read(b"\x00\x00\x00\x0cjP  \x0d\x0a\x87\x0a");
-    read(b"\x00\x00\x00\x10cdef\x00\x00\x00\x01\x00\x00\x00\x10");
-    read(b"\x01\x00\x00\x00pclr");
-    read(b"\x80\x00\x00\x00cmap");
-    read(b"\xff\xff\xff\xff\xff\xff\xff\xff");
+// Lengths of 4 bytes, then of 8.
+fn contents() {
+    each_content(
+        b"\x00\x00\x00\x00jp2c\xff\x4f\
+          \x00\x00\x00\x02jP  \
+          \x00\x00\x00\x03ftyp\
+          \x00\x00\x00\x04jp2h\
+          \x00\x00\x00\x05ihdr\
+          \x00\x00\x00\x06colr\
+          \x00\x00\x00\x07uuid\
+          \x00\x00\x00\x08\x75\x75\x69\x94\
+          \x00\x00\x00\x0cjP  \x0d\x0a\x87\x0a\
+          \x00\x00\x00\x10cdef\x00\x00\x00\x01\x00\x00\x00\x10\
+          \x01\x00\x00\x00pclr\
+          \x80\x00\x00\x00cmap\
+          \xff\xff\xff\xff\xff\xff\xff\xff",
+        &[10, 18, 26, 34, 42, 50, 58, 66, 78, 94, 102, 110, 118],
+    );
+    each_content(
+        b"\x00\x00\x00\x01bpcc\x00\x00\x00\x00\x00\x00\x00\x00\
+          \x00\x00\x00\x01bpcc\x00\x00\x00\x00\x00\x00\x00\x01\
+          \x00\x00\x00\x01bpcc\x00\x00\x00\x00\x00\x00\x00\x0f\
+          \x00\x00\x00\x01bpcc\x00\x00\x00\x00\x00\x00\x00\x10\
+          \x00\x00\x00\x01bpcc\x00\x00\x00\x00\xff\xff\xff\xff\
+          \x00\x00\x00\x01bpcc\x00\x00\x00\x01\x00\x00\x00\x00\
+          \x00\x00\x00\x01bpcc\x01\x00\x00\x00\x00\x00\x00\x10\
+          \x00\x00\x00\x01bpcc\xff\xff\xff\xff\xff\xff\xff\xff\
+          \x00\x00\x00\x01bpcc\x00\x00\x00\x00\x00\x00\x00\x11\x07",
+        &[16, 32, 48, 64, 80, 96, 112, 128, 145],
+    );
 }
 
-fn extended_lengths() {
-    read(b"\x00\x00\x00\x01bpcc\x00\x00\x00\x00\x00\x00\x00\x00");
-    read(b"\x00\x00\x00\x01bpcc\x00\x00\x00\x00\x00\x00\x00\x01");
-    read(b"\x00\x00\x00\x01bpcc\x00\x00\x00\x00\x00\x00\x00\x0f");
-    read(b"\x00\x00\x00\x01bpcc\x00\x00\x00\x00\x00\x00\x00\x10");
-    read(b"\x00\x00\x00\x01bpcc\x00\x00\x00\x00\xff\xff\xff\xff");
-    read(b"\x00\x00\x00\x01bpcc\x00\x00\x00\x01\x00\x00\x00\x00");
-    read(b"\x00\x00\x00\x01bpcc\x01\x00\x00\x00\x00\x00\x00\x10");
-    read(b"\x00\x00\x00\x01bpcc\xff\xff\xff\xff\xff\xff\xff\xff");
-    read(b"\x00\x00\x00\x01bpcc\x00\x00\x00\x00\x00\x00\x00\x11\x07");
-}
-
-fn made() {
-    new(Jp2BoxType::JP2H);
-    new(Jp2BoxType::Unknown(0x75756964));
-    new(Jp2BoxType::None);
+// Contents one after the other, of which each ends where it is said.
+fn each_content(contents: &[u8], ends: &[usize]) {
+    let mut start = 0;
+    let mut i = 0;
+    while i < ends.len() {
+        read(jp2_cio::part(contents, start, ends[i]));
+        start = ends[i];
+        i += 1;
+    }
 }
 
 fn content_lengths() {
@@ -103,45 +118,45 @@ fn writes() {
 }
 
 fn read(c: &[u8]) {
-    say::text(b"from_stream of ");
-    say::bytes(c);
+    text(b"from_stream of ");
+    bytes(c);
     came(Jp2BoxHeader::from_stream(c));
-    say::text(b"read of ");
-    say::bytes(c);
+    text(b"read of ");
+    bytes(c);
     came(Jp2BoxHeader::read(c));
 }
 
 fn came(r: ReadHeader) {
-    say::text(b" = ");
     match r {
-        ReadHeader::Header(h) => header(h),
-        ReadHeader::NoBytes => say::text(b"NoBytes"),
-        ReadHeader::Cut => say::text(b"Cut"),
-        ReadHeader::HighWord => say::text(b"HighWord"),
-        ReadHeader::LengthZero => say::text(b"LengthZero"),
+        ReadHeader::Header(h) => {
+            text(b" = ");
+            header(h);
+            text(b"\n");
+        }
+        ReadHeader::NoBytes => text(b" = NoBytes\n"),
+        ReadHeader::Cut => text(b" = Cut\n"),
+        ReadHeader::HighWord => text(b" = HighWord\n"),
+        ReadHeader::LengthZero => text(b" = LengthZero\n"),
     }
-    say::text(b"\n");
 }
 
 fn header(h: Jp2BoxHeader) {
     let ty = h.ty;
-    say::text(b"Header ");
+    text(b"Header ");
     kinds::name(ty);
-    say::text(b", length ");
-    say::decimal(h.length as u64);
-    say::text(b", header_length ");
-    say::decimal(h.header_length as u64);
+    say(
+        b", length #, header_length #",
+        &[h.length as usize, h.header_length as usize],
+    );
 }
 
 fn new(ty: Jp2BoxType) {
-    say::text(b"new ");
-    kinds::name(ty);
-    say::text(b" = ");
     let h = Jp2BoxHeader::new(ty);
+    text(b"new ");
     header(h);
-    say::text(b", ty_u32 ");
-    say::hex(h.ty_u32());
-    say::text(b"\n");
+    text(b", ty_u32 ");
+    hex(h.ty_u32());
+    text(b"\n");
 }
 
 fn content_length(length: u32, header_length: u32) {
@@ -150,9 +165,14 @@ fn content_length(length: u32, header_length: u32) {
         ty: Jp2BoxType::COLR,
         header_length,
     };
-    say::text(b"content_length of ");
-    header(h);
-    say::answer(h.content_length() as u64);
+    say(
+        b"content_length of Header COLR, length #, header_length # = #\n",
+        &[
+            length as usize,
+            header_length as usize,
+            h.content_length() as usize,
+        ],
+    );
 }
 
 fn next(length: u32, at: u32) {
@@ -161,13 +181,13 @@ fn next(length: u32, at: u32) {
         ty: Jp2BoxType::COLR,
         header_length: 8,
     };
-    say::text(b"next at ");
-    say::decimal(at as u64);
-    say::text(b" of ");
-    header(h);
-    say::answer(h.next(at) as u64);
+    say(
+        b"next at # of Header COLR, length #, header_length 8 = #\n",
+        &[at as usize, length as usize, h.next(at) as usize],
+    );
 }
 
+// Only the first bytes of d are lent, as many as there is to be room for.
 fn write(length: u32, ty: Jp2BoxType, room: usize, at: usize) {
     let mut d = [0xaau8; 10];
     let h = Jp2BoxHeader {
@@ -175,20 +195,16 @@ fn write(length: u32, ty: Jp2BoxType, room: usize, at: usize) {
         ty,
         header_length: 8,
     };
-    write_in_first(h, &mut d, room, at);
-}
-
-// Only the first bytes of d are lent, as many as there is to be room for.
-fn write_in_first(h: Jp2BoxHeader, d: &mut [u8], room: usize, at: usize) {
-    if room <= d.len() {
+    if room <= 10 {
         write_in(h, &mut d[0..room], at);
     }
 }
 
 fn write_in(h: Jp2BoxHeader, d: &mut [u8], at: usize) {
-    say::text(b"write ");
+    text(b"write ");
     header(h);
-    say::place(at, d);
     let fitted = h.write(d, at);
-    say::written(fitted, d);
+    say(b" at # of # bytes = #, ", &[at, d.len(), fitted as usize]);
+    bytes(d);
+    text(b"\n");
 }

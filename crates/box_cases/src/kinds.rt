@@ -1,8 +1,7 @@
 // The kinds of box: from the number to the kind and back.
-ghost use Prim.Native.Nat.{_≤_};
-ghost use mathlib.Core.Path.{_≡_};
-ghost use lib.ListN.{length};
-use crate::say;
+use crate::say::hex;
+use crate::say::say;
+use crate::say::text;
 use jp2_kind::Jp2BoxType;
 
 // The 19 kinds that have a name, then numbers of none: 0x75756964 is the standard's UUID.
@@ -54,76 +53,56 @@ fn each_number(numbers: &[u32]) {
 }
 
 fn number(value: u32) {
-    say::text(b"from_u32 ");
-    say::hex(value);
-    say::text(b" = ");
-    name(Jp2BoxType::from_u32(value));
-    say::text(b"\n");
+    text(b"from_u32 ");
+    hex(value);
+    text(b" = ");
     kind(Jp2BoxType::from_u32(value));
 }
 
 fn kind(ty: Jp2BoxType) {
-    say::text(b"to_u32 ");
     name(ty);
-    say::text(b" = ");
-    say::hex(ty.to_u32());
-    say::text(b", is_file_header ");
-    say::truth(ty.is_file_header());
-    say::text(b", is_image_header ");
-    say::truth(ty.is_image_header());
-    say::text(b"\n");
+    text(b", to_u32 ");
+    hex(ty.to_u32());
+    say(
+        b", is_file_header #, is_image_header #\n",
+        &[ty.is_file_header() as usize, ty.is_image_header() as usize],
+    );
 }
 
 pub fn name(ty: Jp2BoxType) {
     if let Jp2BoxType::Unknown(value) = ty {
-        say::text(b"Unknown ");
-        say::hex(value);
+        text(b"Unknown ");
+        hex(value);
         return;
     }
-    let letters = letters(ty);
-    let n = count(ty);
-    say::text(&letters[0..n]);
+    let names =
+        b"None\nJPIP\nJP\nFTYP\nJP2H\nIHDR\nCOLR\nJP2C\nURL\nPCLR\nCMAP\nCDEF\nDTBL\nBPCC\nJP2\nRES\nJP2I\nXML\nUUID\nUINF\n";
+    text(jp2_text::line(names, place(ty)));
 }
 
-// How many letters the name of a kind has.
-fn count(ty: Jp2BoxType) -> usize
-    ensures { λ r. ⌜ r ≤ 4 ⌝ }
-{
+// Where the name of a kind stands among the names.
+fn place(ty: Jp2BoxType) -> usize {
     match ty {
+        Jp2BoxType::None => 0,
+        Jp2BoxType::JPIP => 1,
         Jp2BoxType::JP => 2,
-        Jp2BoxType::URL => 3,
-        Jp2BoxType::JP2 => 3,
-        Jp2BoxType::RES => 3,
-        Jp2BoxType::XML => 3,
-        _ => 4,
-    }
-}
-
-// The name of a kind, with blanks after a short one.
-fn letters(ty: Jp2BoxType) -> [u8; 4]
-    ensures { λ r. ⌜ 4 ≡ length r ⌝ }
-{
-    match ty {
-        Jp2BoxType::None => *b"None",
-        Jp2BoxType::JPIP => *b"JPIP",
-        Jp2BoxType::JP => *b"JP  ",
-        Jp2BoxType::FTYP => *b"FTYP",
-        Jp2BoxType::JP2H => *b"JP2H",
-        Jp2BoxType::IHDR => *b"IHDR",
-        Jp2BoxType::COLR => *b"COLR",
-        Jp2BoxType::JP2C => *b"JP2C",
-        Jp2BoxType::URL => *b"URL ",
-        Jp2BoxType::PCLR => *b"PCLR",
-        Jp2BoxType::CMAP => *b"CMAP",
-        Jp2BoxType::CDEF => *b"CDEF",
-        Jp2BoxType::DTBL => *b"DTBL",
-        Jp2BoxType::BPCC => *b"BPCC",
-        Jp2BoxType::JP2 => *b"JP2 ",
-        Jp2BoxType::RES => *b"RES ",
-        Jp2BoxType::JP2I => *b"JP2I",
-        Jp2BoxType::XML => *b"XML ",
-        Jp2BoxType::UUID => *b"UUID",
-        Jp2BoxType::UINF => *b"UINF",
-        Jp2BoxType::Unknown(_) => *b"    ",
+        Jp2BoxType::FTYP => 3,
+        Jp2BoxType::JP2H => 4,
+        Jp2BoxType::IHDR => 5,
+        Jp2BoxType::COLR => 6,
+        Jp2BoxType::JP2C => 7,
+        Jp2BoxType::URL => 8,
+        Jp2BoxType::PCLR => 9,
+        Jp2BoxType::CMAP => 10,
+        Jp2BoxType::CDEF => 11,
+        Jp2BoxType::DTBL => 12,
+        Jp2BoxType::BPCC => 13,
+        Jp2BoxType::JP2 => 14,
+        Jp2BoxType::RES => 15,
+        Jp2BoxType::JP2I => 16,
+        Jp2BoxType::XML => 17,
+        Jp2BoxType::UUID => 18,
+        Jp2BoxType::UINF => 19,
+        Jp2BoxType::Unknown(_) => 20,
     }
 }

@@ -5,25 +5,24 @@ pub fn text(s: &[u8]) {
     io::write_all(STDOUT_FILENO, s);
 }
 
-pub fn decimal(n: u64) {
-    io::print_decimal(STDOUT_FILENO, n);
+// A shape in which each # stands for the next of the numbers.
+pub fn say(shape: &[u8], numbers: &[usize]) {
+    let mut d = io::buffer();
+    let n = jp2_text::fill(&mut d, 0, shape, numbers);
+    io::write_all(STDOUT_FILENO, jp2_cio::part(&d, 0, n));
 }
 
+// The number of a kind.
 pub fn hex(n: u32) {
     io::print_hex(STDOUT_FILENO, n as u64, 8);
 }
 
-pub fn truth(b: bool) {
-    if b {
-        text(b"true");
-    } else {
-        text(b"false");
-    }
-}
-
 // How many bytes s has, and each of them.
 pub fn bytes(s: &[u8]) {
-    size(s.len());
+    say(
+        jp2_text::line(b"# bytes\n# byte\n", (s.len() == 1) as usize),
+        &[s.len()],
+    );
     let mut i = 0;
     while i < s.len() {
         byte(s[i]);
@@ -31,39 +30,7 @@ pub fn bytes(s: &[u8]) {
     }
 }
 
-fn size(n: usize) {
-    decimal(n as u64);
-    if n == 1 {
-        text(b" byte");
-    } else {
-        text(b" bytes");
-    }
-}
-
 fn byte(b: u8) {
     text(b" ");
     io::print_hex(STDOUT_FILENO, b as u64, 2);
-}
-
-// The place and the bytes that a case is about.
-pub fn place(at: usize, s: &[u8]) {
-    text(b" at ");
-    decimal(at as u64);
-    text(b" of ");
-    bytes(s);
-}
-
-pub fn answer(n: u64) {
-    text(b" = ");
-    decimal(n);
-    text(b"\n");
-}
-
-// Whether something was written, and the bytes after it.
-pub fn written(fitted: bool, d: &[u8]) {
-    text(b" = ");
-    truth(fitted);
-    text(b", ");
-    bytes(d);
-    text(b"\n");
 }

@@ -43,4 +43,18 @@ returns : tie.Need-returns Inv-loop μ-loop
 returns c = tt
 
 pub each-beginning-spec : {M : Type 1} → statement M
-each-beginning-spec = tie.close (tie.spec Inv-loop μ-loop loop-holds sub-read part-read-start part-read-end read-requires add-n loop-less loop-again read-requires-2 returns)
+each-beginning-spec =
+    tie.close
+    (tie.spec
+    Inv-loop
+    μ-loop
+    loop-holds
+    sub-read
+    part-read-start
+    part-read-end
+    read-requires
+    add-n
+    loop-less
+    loop-again
+    read-requires-2
+    returns)

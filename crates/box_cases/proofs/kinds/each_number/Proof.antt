@@ -37,4 +37,16 @@ returns : tie.Need-returns Inv-loop μ-loop
 returns c = tt
 
 pub each-number-spec : {M : Type 1} → statement M
-each-number-spec = tie.close (tie.spec Inv-loop μ-loop loop-holds mul-number shared-slice-read-number number-requires add-i loop-less loop-again returns)
+each-number-spec =
+    tie.close
+    (tie.spec
+    Inv-loop
+    μ-loop
+    loop-holds
+    mul-number
+    shared-slice-read-number
+    number-requires
+    add-i
+    loop-less
+    loop-again
+    returns)

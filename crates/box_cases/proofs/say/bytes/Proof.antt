@@ -2,6 +2,7 @@
 -- Assumes nothing.
 use Prim.Native.Nat.{_-_}
 use native.Mathlib.Omega.{arith}
+use borrow.Author.Needs.{needs}
 use lib.ListN.{length}
 use Rattle.box_cases.proofs.say.bytes.Statement.{statement}
 use Rattle.box_cases.proofs.say.bytes.Tie as tie
@@ -12,8 +13,20 @@ Inv-loop s i₀ i = Unit {0}
 abbrev μ-loop : tie.MeasureT-loop
 μ-loop s i₀ i = length s - i
 
-size-requires : tie.Need-size-requires Inv-loop μ-loop
-size-requires c κs = tt
+slice-aggregate-line : tie.Need-slice-aggregate-line Inv-loop μ-loop
+slice-aggregate-line c = search needs
+
+cast-line : tie.Need-cast-line Inv-loop μ-loop
+cast-line c = search needs
+
+line-requires : tie.Need-line-requires Inv-loop μ-loop
+line-requires c κs = tt
+
+slice-aggregate-say : tie.Need-slice-aggregate-say Inv-loop μ-loop
+slice-aggregate-say c = search needs
+
+say-requires : tie.Need-say-requires Inv-loop μ-loop
+say-requires c κs = tt
 
 loop-holds : tie.Need-loop-holds Inv-loop μ-loop
 loop-holds c = tt
@@ -37,4 +50,20 @@ returns : tie.Need-returns Inv-loop μ-loop
 returns c = tt
 
 pub bytes-spec : {M : Type 1} → statement M
-bytes-spec = tie.close (tie.spec Inv-loop μ-loop size-requires loop-holds shared-slice-read-byte byte-requires add-i loop-less loop-again returns)
+bytes-spec =
+    tie.close
+    (tie.spec
+    Inv-loop
+    μ-loop
+    slice-aggregate-line
+    cast-line
+    line-requires
+    slice-aggregate-say
+    say-requires
+    loop-holds
+    shared-slice-read-byte
+    byte-requires
+    add-i
+    loop-less
+    loop-again
+    returns)

@@ -1,10 +1,10 @@
--- `box_cases::numbers::each_limit` is safe and ends: what is left of the slice falls.
+-- `number_cases::each_limit` is safe and ends: what is left of the slice falls.
 -- Assumes nothing.
 use Prim.Native.Nat.{_-_}
 use native.Mathlib.Omega.{arith}
 use lib.ListN.{length}
-use Rattle.box_cases.proofs.numbers.each_limit.Statement.{statement}
-use Rattle.box_cases.proofs.numbers.each_limit.Tie as tie
+use Rattle.number_cases.proofs.each_limit.Statement.{statement}
+use Rattle.number_cases.proofs.each_limit.Tie as tie
 
 abbrev Inv-loop : tie.InvT-loop
 Inv-loop limits i₀ i = Unit {0}
@@ -37,4 +37,16 @@ returns : tie.Need-returns Inv-loop μ-loop
 returns c = tt
 
 pub each-limit-spec : {M : Type 1} → statement M
-each-limit-spec = tie.close (tie.spec Inv-loop μ-loop loop-holds mul-there-and-back shared-slice-read-there-and-back there-and-back-requires add-i loop-less loop-again returns)
+each-limit-spec =
+    tie.close
+    (tie.spec
+    Inv-loop
+    μ-loop
+    loop-holds
+    mul-there-and-back
+    shared-slice-read-there-and-back
+    there-and-back-requires
+    add-i
+    loop-less
+    loop-again
+    returns)

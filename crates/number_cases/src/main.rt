@@ -1,30 +1,34 @@
-// Numbers of 1 to 4 bytes, and parts of a slice.
-use crate::say;
+// Edge cases of numbers of 1 to 4 bytes and of parts of a slice, a line each: what was asked = what came.
+mod say;
 
-// The values next to which a number needs another byte, or another bit.
-const LIMITS: [u32; 11] = [
-    0,
-    1,
-    0x7f,
-    0x80,
-    0xff,
-    0x100,
-    0xffff,
-    0x10000,
-    0xffffff,
-    0x1000000,
-    0xffffffff,
-];
+use say::bytes;
+use say::say;
+use say::text;
 
 // The last place that a usize can name.
-pub const FAR: usize = 0xffff_ffff_ffff_ffff;
+const FAR: usize = 0xffff_ffff_ffff_ffff;
 
-pub fn all() {
-    let limits = LIMITS;
-    each_limit(&limits);
-    places(b"\xff\x80\x01\x7f");
-    reads(b"", 0);
-    odd_widths();
+fn main() {
+    // the values next to which a number needs another byte, or another bit
+    each_limit(
+        &[
+            0,
+            1,
+            0x7f,
+            0x80,
+            0xff,
+            0x100,
+            0xffff,
+            0x10000,
+            0xffffff,
+            0x1000000,
+            0xffffffff,
+        ],
+    );
+    // every place of four bytes, the end, and places past it: a byte past the end counts as 0
+    each_place(b"\xff\x80\x01\x7f", &[0, 1, 2, 3, 4, 5, 0x1_0000_0000, FAR]);
+    each_place(b"", &[0]);
+    odd_widths(b"\x01\x02\x03\x04\x05\x06");
     parts(b"\xff\x80\x01\x7f");
     rooms();
 }
@@ -58,16 +62,12 @@ fn in_width(value: u32, nb: usize) {
     read_bytes(&d, 1, nb);
 }
 
-// Every place of four bytes, the end, and places past it: a byte past the end counts as 0.
-fn places(s: &[u8]) {
-    reads(s, 0);
-    reads(s, 1);
-    reads(s, 2);
-    reads(s, 3);
-    reads(s, 4);
-    reads(s, 5);
-    reads(s, 0x1_0000_0000);
-    reads(s, FAR);
+fn each_place(s: &[u8], places: &[usize]) {
+    let mut i = 0;
+    while i < places.len() {
+        reads(s, places[i]);
+        i += 1;
+    }
 }
 
 fn reads(s: &[u8], at: usize) {
@@ -81,8 +81,7 @@ fn reads(s: &[u8], at: usize) {
 }
 
 // A number of no bytes is 0; of more than four bytes the first four count.
-fn odd_widths() {
-    let s = b"\x01\x02\x03\x04\x05\x06";
+fn odd_widths(s: &[u8]) {
     read_bytes(s, 0, 0);
     read_bytes(s, 0, 5);
     read_bytes(s, 2, 6);
@@ -128,61 +127,52 @@ fn rooms() {
     in_room(8, FAR, 4);
 }
 
+// Only the first bytes of d are lent, as many as there is to be room for.
 fn in_room(room: usize, at: usize, nb: usize) {
     let mut d = [0xaau8; 8];
-    write_in_first(&mut d, room, at, nb);
-}
-
-// Only the first bytes of d are lent, as many as there is to be room for.
-fn write_in_first(d: &mut [u8], room: usize, at: usize, nb: usize) {
-    if room <= d.len() {
+    if room <= 8 {
         write(&mut d[0..room], at, 0x01020304, nb);
     }
 }
 
 fn read_u8(s: &[u8], at: usize) {
-    say::text(b"read_u8");
-    say::place(at, s);
-    say::answer(jp2_cio::read_u8(s, at) as u64);
+    say(b"read_u8 at # of ", &[at]);
+    bytes(s);
+    say(b" = #\n", &[jp2_cio::read_u8(s, at) as usize]);
 }
 
 fn read_u16(s: &[u8], at: usize) {
-    say::text(b"read_u16");
-    say::place(at, s);
-    say::answer(jp2_cio::read_u16(s, at) as u64);
+    say(b"read_u16 at # of ", &[at]);
+    bytes(s);
+    say(b" = #\n", &[jp2_cio::read_u16(s, at) as usize]);
 }
 
 fn read_u32(s: &[u8], at: usize) {
-    say::text(b"read_u32");
-    say::place(at, s);
-    say::answer(jp2_cio::read_u32(s, at) as u64);
+    say(b"read_u32 at # of ", &[at]);
+    bytes(s);
+    say(b" = #\n", &[jp2_cio::read_u32(s, at) as usize]);
 }
 
 fn read_bytes(s: &[u8], at: usize, nb: usize) {
-    say::text(b"opj_read_bytes, width ");
-    say::decimal(nb as u64);
-    say::place(at, s);
-    say::answer(jp2_cio::opj_read_bytes(s, at, nb) as u64);
+    say(b"opj_read_bytes, width # at # of ", &[nb, at]);
+    bytes(s);
+    say(b" = #\n", &[jp2_cio::opj_read_bytes(s, at, nb) as usize]);
 }
 
 fn write(d: &mut [u8], at: usize, value: u32, nb: usize) {
-    say::text(b"opj_write_bytes ");
-    say::decimal(value as u64);
-    say::text(b", width ");
-    say::decimal(nb as u64);
-    say::place(at, d);
     let fitted = jp2_cio::opj_write_bytes(d, at, value, nb);
-    say::written(fitted, d);
+    say(
+        b"opj_write_bytes #, width # at # of # bytes = #, ",
+        &[value as usize, nb, at, d.len(), fitted as usize],
+    );
+    bytes(d);
+    text(b"\n");
 }
 
 fn part(s: &[u8], start: usize, end: usize) {
-    say::text(b"part from ");
-    say::decimal(start as u64);
-    say::text(b" to ");
-    say::decimal(end as u64);
-    say::text(b" of ");
-    say::bytes(s);
-    say::text(b" = ");
-    say::bytes(jp2_cio::part(s, start, end));
-    say::text(b"\n");
+    say(b"part from # to # of ", &[start, end]);
+    bytes(s);
+    text(b" = ");
+    bytes(jp2_cio::part(s, start, end));
+    text(b"\n");
 }
