@@ -14,6 +14,7 @@ ghost use Rattle.jp2_numbers.specs.Numbers.{numbers, number};
 ghost use Rattle.jp2_numbers.specs.Replies.{told, refusal};
 ghost use Rattle.jp2_again.specs.Again.{again};
 ghost use Rattle.jp2_export.specs.Replies.{ofFinished, ofWritten};
+ghost use Rattle.jp2_export.specs.Rule.{ToldRight};
 use jp2_finish::Finished;
 use jp2_numbers::Reply;
 use jp2_write::Written;
@@ -38,6 +39,7 @@ fn finished(r: Finished) -> Reply
 }
 
 // Reads a file, finishes its picture and gives the 4 numbers of the answer. Where answer has no room for them nothing is done.
+// The last clause is demand 3: where the answer tells of planes, wherever one looks in the destinations the sample is the right one.
 #[no_mangle]
 pub extern "C" fn cuzhantir_picture(
     file: &[u8],
@@ -53,6 +55,7 @@ pub extern "C" fn cuzhantir_picture(
     ensures { λ _. ⌜ now (answer .exit) ≡ room 4 (now (answer .entry)) (now (answer .entry)) (placed (now (answer .entry)) 0 (told (ofFinished (answered (pictured (handed (now (file .entry)) ignore (now (comps .entry)) count (now (samples .entry)) (now (records .entry)) (now (planes .entry)))))))) ⌝ }
     ensures { λ _. ⌜ now (records .exit) ≡ room 4 (now (answer .entry)) (now (records .entry)) (recordsAfter (pictured (handed (now (file .entry)) ignore (now (comps .entry)) count (now (samples .entry)) (now (records .entry)) (now (planes .entry)))) (now (records .entry))) ⌝ }
     ensures { λ _. ⌜ now (planes .exit) ≡ room 4 (now (answer .entry)) (now (planes .entry)) (samplesAfter (pictured (handed (now (file .entry)) ignore (now (comps .entry)) count (now (samples .entry)) (now (records .entry)) (now (planes .entry)))) (now (planes .entry))) ⌝ }
+    ensures { λ _. ⌜ ToldRight (handed (now (file .entry)) ignore (now (comps .entry)) count (now (samples .entry)) (now (records .entry)) (now (planes .entry))) (now (answer .entry)) (now (answer .exit)) (now (records .exit)) (now (planes .exit)) ⌝ }
 {
     if answer.len() < 4 {
         return 30;

@@ -1,8 +1,10 @@
 -- `jp2_export::cuzhantir_picture` meets its contract.
 -- Assumes nothing.
+use native.Mathlib.Omega.{arith}
 use mathlib.Core.Path.{ap, _∙_}
 use Rattle.jp2_numbers.proofs.Rooms.{short, long, same-reply}
 use Rattle.jp2_export.specs.Replies.{ofFinished}
+use Rattle.jp2_export.proofs.Rights.{told-right}
 use Rattle.jp2_export.proofs.cuzhantir_picture.Statement.{statement}
 use Rattle.jp2_export.proofs.cuzhantir_picture.Tie as tie
 
@@ -10,7 +12,7 @@ returns : tie.Need-returns
 returns c =
     let d = c .before .before .before .before .before .args .answer .now in
     let h = c .if1 .taken in
-    (short 4 d _ _ h, (short 4 d _ _ h, (short 4 d _ _ h, short 4 d _ _ h)))
+    (short 4 d _ _ h, (short 4 d _ _ h, (short 4 d _ _ h, (short 4 d _ _ h, λ l z. absurd (omega arith)))))
 
 read-picture-requires : tie.Need-read-picture-requires
 read-picture-requires c κs = tt
@@ -36,7 +38,7 @@ returns-2 c =
     let h = c .before .before .before .before .before .before .before .before .before .before .before .if1 .left in
     let e = c .before .before .before .before .before .before .before .before .read-picture .ensures in
     let g = same-reply d (c .before .before .before .before .finished .ensures ∙ ap ofFinished (e .0)) (c .before .before .give-reply .ensures) in
-    (g .0, (g .1, (long 4 d _ _ h (e .1 .0), long 4 d _ _ h (e .1 .1 .0))))
+    (g .0, (g .1, (long 4 d _ _ h (e .1 .0), (long 4 d _ _ h (e .1 .1 .0), told-right _ d _ (same-reply d (c .before .before .before .before .finished .ensures) (c .before .before .give-reply .ensures) .1) (e .1 .1 .1 .0) (e .1 .1 .1 .1)))))
 
 pub cuzhantir-picture-spec : {M : Type 1} → statement M
 cuzhantir-picture-spec =
