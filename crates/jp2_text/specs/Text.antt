@@ -37,12 +37,12 @@ unfoldable pub joined : List ℕ → List ℕ → List ℕ
 joined between [] = []
 joined between (n ∷ numbers) = decimal n ++ behind between numbers
 
--- line n, from 0, of lines that each end in a newline; nothing where it is not there
-unfoldable pub line : ℕ → List ℕ → List ℕ
-line n [] = []
-line n (b ∷ lines) =
+-- line n, from 0, of lines that each end in a byte, as in a newline; nothing where it is not there
+unfoldable pub line : ℕ → ℕ → List ℕ → List ℕ
+line end n [] = []
+line end n (b ∷ lines) =
     table
-    (b =? 10 and n =? 0 ⇒ []
-    ∣ b =? 10 ⇒ line (n - 1) lines
-    ∣ n =? 0 ⇒ b ∷ line n lines
-    ∣ otherwise (line n lines))
+    (b =? end and n =? 0 ⇒ []
+    ∣ b =? end ⇒ line end (n - 1) lines
+    ∣ n =? 0 ⇒ b ∷ line end n lines
+    ∣ otherwise (line end n lines))

@@ -134,31 +134,32 @@ fn reach(s: &[u8], n: usize) -> usize
     s.len()
 }
 
-// Line n, from 0, of lines that each end in a newline; empty where it is not there.
-pub fn line(lines: &[u8], n: usize) -> &[u8]
-    ensures { λ r. ⌜ now r ≡ line n (now (lines .entry)) ⌝ }
+// Line n, from 0, of lines that each end in a byte, as in a newline; empty where it is not there.
+pub fn line(lines: &[u8], end: u8, n: usize) -> &[u8]
+    ensures { λ r. ⌜ now r ≡ line end n (now (lines .entry)) ⌝ }
 {
-    first_line(jp2_cio::part(lines, line_start(lines, n), lines.len()))
+    let start = line_start(lines, end, n);
+    first_line(jp2_cio::part(lines, start, lines.len()), end)
 }
 
-fn line_start(lines: &[u8], n: usize) -> usize
-    ensures { λ r. ⌜ line 0 (drop r (now (lines .entry))) ≡ line n (now (lines .entry)) ⌝ }
+fn line_start(lines: &[u8], end: u8, n: usize) -> usize
+    ensures { λ r. ⌜ line end 0 (drop r (now (lines .entry))) ≡ line end n (now (lines .entry)) ⌝ }
 {
     let mut passed = 0;
     let mut i = 0;
     while i < lines.len() && passed < n {
-        passed = passed + is(lines[i], b'\n');
+        passed = passed + is(lines[i], end);
         i += 1;
     }
     i
 }
 
-fn first_line(lines: &[u8]) -> &[u8]
-    ensures { λ r. ⌜ now r ≡ line 0 (now (lines .entry)) ⌝ }
+fn first_line(lines: &[u8], end: u8) -> &[u8]
+    ensures { λ r. ⌜ now r ≡ line end 0 (now (lines .entry)) ⌝ }
 {
     let mut i = 0;
     while i < lines.len() {
-        if lines[i] == b'\n' {
+        if lines[i] == end {
             return &lines[..i];
         }
         i += 1;

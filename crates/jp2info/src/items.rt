@@ -2,7 +2,6 @@
 use crate::say;
 use crate::say::field;
 use crate::say::note;
-use crate::say::number;
 use crate::say::pair;
 
 pub enum Item {
@@ -38,36 +37,35 @@ pub fn show(json: bool, item: Item, i: usize, c: &[u8]) {
 // What stands before item i of a list of JSON.
 pub fn comma(json: bool, i: usize) {
     if i != 0 {
-        say::machine(json, b",");
+        say::text(json, b"|,");
     }
 }
 
 // The four letters of a brand.
 pub fn code(json: bool, c: &[u8]) {
-    say::text(json, b" '", b"\"");
+    say::text(json, b" '|\"");
     say::quote(json, jp2_cio::part(c, 0, 4));
-    say::text(json, b"'", b"\"");
+    say::text(json, b"'|\"");
 }
 
 fn component(json: bool, i: usize, c: &[u8]) {
     let b = jp2_cio::read_u8(c, 0) as usize;
-    number(json, b"\n    component #: ", i);
-    field(json, b"# (", b"#", b);
+    field(json, b"\n    component #: |", i);
+    field(json, b"# (|#", b);
     depth(json, b);
 }
 
 fn column(json: bool, i: usize, c: &[u8]) {
-    let b = jp2_cio::read_u8(c, 0) as usize;
-    field(json, b"\n    B #: ", b"{\"B\":", i);
-    field(json, b"# (", b"#", b);
-    field(json, b"# bits, ", b",\"bits\":#", b % 128 + 1);
-    field(json, b"", b",\"sign\":#}", b / 128);
-    sign(json, b / 128);
+    let b = jp2_cio::read_u8(c, 0) as u32;
+    field(json, b"\n    B #: |{\"B\":", i);
+    pair(json, b"# (# bits, |#,\"bits\":#", b, b % 128 + 1);
+    field(json, b"|,\"sign\":#}", (b / 128) as usize);
+    sign(json, (b / 128) as usize);
 }
 
 // What a byte of BPC or BPCC says, for people.
 pub fn depth(json: bool, b: usize) {
-    number(json, b"# bits, ", b % 128 + 1);
+    field(json, b"# bits, |", b % 128 + 1);
     sign(json, b / 128);
 }
 
@@ -77,19 +75,17 @@ fn sign(json: bool, sign: usize) {
 
 fn mapping(json: bool, i: usize, c: &[u8]) {
     let mtyp = jp2_cio::read_u8(c, 2);
-    field(json, b"\n    channel #: ", b"{", i);
+    field(json, b"\n    channel #: |{", i);
     pair(
         json,
-        b"CMP #, MTYP # (",
-        b"\"CMP\":#,\"MTYP\":#",
+        b"CMP #, MTYP # (|\"CMP\":#,\"MTYP\":#",
         jp2_cio::read_u16(c, 0) as u32,
         mtyp as u32,
     );
     note(json, mtyp as usize, b"direct\npalette\n");
     field(
         json,
-        b"), PCOL #",
-        b",\"PCOL\":#}",
+        b"), PCOL #|,\"PCOL\":#}",
         jp2_cio::read_u8(c, 3) as usize,
     );
 }
@@ -99,20 +95,19 @@ fn definition(json: bool, c: &[u8]) {
     let asoc = jp2_cio::read_u16(c, 4);
     pair(
         json,
-        b"\n    Cn #, Typ # (",
-        b"{\"Cn\":#,\"Typ\":#",
+        b"\n    Cn #, Typ # (|{\"Cn\":#,\"Typ\":#",
         jp2_cio::read_u16(c, 0) as u32,
         typ as u32,
     );
     channel(json, typ as usize);
-    field(json, b"), Asoc # (", b",\"Asoc\":#}", asoc as usize);
+    field(json, b"), Asoc # (|,\"Asoc\":#}", asoc as usize);
     association(json, asoc as usize);
 }
 
 // Typ.
 fn channel(json: bool, typ: usize) {
     if typ == 65535 {
-        say::people(json, b"unspecified");
+        say::text(json, b"unspecified|");
         return;
     }
     note(json, typ, b"colour\nopacity\npremultiplied opacity\n");
@@ -121,12 +116,12 @@ fn channel(json: bool, typ: usize) {
 // Asoc.
 fn association(json: bool, asoc: usize) {
     if asoc == 0 {
-        say::people(json, b"whole image)");
+        say::text(json, b"whole image)|");
         return;
     }
     if asoc == 65535 {
-        say::people(json, b"unassociated)");
+        say::text(json, b"unassociated)|");
         return;
     }
-    number(json, b"colour #)", asoc);
+    field(json, b"colour #)|", asoc);
 }

@@ -7,19 +7,21 @@ use jp2_record::Palette;
 use jp2_record::Span;
 
 // A list with what stands before it. People are told nothing of an empty one.
-pub fn list(json: bool, people: &[u8], machine: &[u8], item: Item, file: &[u8], list: Span) {
-    head(json, people, machine, list.count);
+pub fn list(json: bool, head: &[u8], item: Item, file: &[u8], list: Span) {
+    begin(json, head, list.count);
     let c = jp2_cio::part(file, list.place, file.len());
     each(json, item, c, list.count);
-    say::machine(json, b"]");
+    say::text(json, b"|]");
 }
 
-fn head(json: bool, people: &[u8], machine: &[u8], n: usize) {
-    if n == 0 {
-        say::machine(json, machine);
+fn begin(json: bool, head: &[u8], n: usize) {
+    if json {
+        say::text(json, head);
         return;
     }
-    say::text(json, people, machine);
+    if n != 0 {
+        say::text(json, head);
+    }
 }
 
 fn each(json: bool, item: Item, list: &[u8], n: usize) {
@@ -76,7 +78,7 @@ fn rows(json: bool, depths: &[u8], list: &[u8], size: usize, n: usize) {
 // Row i, which stands in front of the list.
 fn row(json: bool, i: usize, depths: &[u8], list: &[u8]) {
     items::comma(json, i);
-    say::field(json, b"\n    entry #: ", b"[", i);
+    say::field(json, b"\n    entry #: |[", i);
     say::row(json, depths, list);
-    say::machine(json, b"]");
+    say::text(json, b"|]");
 }

@@ -48,14 +48,15 @@ fn word(json: bool, i: usize, room: &mut [u8]) -> bool {
         load::complain(&name, b"..: File name too long\n");
         return json;
     }
-    if is(&name[..n], b"--json") {
+    let s = &name[..n];
+    if is(s, b"--json") {
         return true;
     }
-    if is(&name[..n], b"--help") {
+    if is(s, b"--help") {
         usage::usage(libc::STDOUT_FILENO);
         return json;
     }
-    file(json, &name[..n], room);
+    file(json, s, room);
     json
 }
 

@@ -5,7 +5,6 @@ use crate::items::Item;
 use crate::lists;
 use crate::say;
 use crate::say::field;
-use crate::say::machine;
 use crate::say::note;
 use crate::say::pair;
 use crate::say::text;
@@ -21,7 +20,7 @@ use jp2_record::Palette;
 use jp2_record::Span;
 
 pub fn reading(json: bool, name: &[u8], file: &[u8], r: Reading) {
-    machine(json, b"{\"file\":\"");
+    text(json, b"|{\"file\":\"");
     say::quote(json, name);
     outcome(json, file, r);
     if json {
@@ -51,16 +50,14 @@ fn codestream(json: bool, answer: FileAnswer) {
     if let FileAnswer::Codestream(offset) = answer {
         field(
             json,
-            b"\n  codestream: at #",
-            b"\",\"answer\":\"codestream\",\"codestream\":#",
+            b"\n  codestream: at #|\",\"answer\":\"codestream\",\"codestream\":#",
             offset as usize,
         );
         return;
     }
     text(
         json,
-        b"\n  codestream: none, ended",
-        b"\",\"answer\":\"ended\",\"codestream\":null",
+        b"\n  codestream: none, ended|\",\"answer\":\"ended\",\"codestream\":null",
     );
 }
 
@@ -68,8 +65,7 @@ fn codestream(json: bool, answer: FileAnswer) {
 fn refused(json: bool, n: u32, place: u32) {
     field(
         json,
-        b"\n  refused: #, ",
-        b"\",\"answer\":\"refused\",\"number\":#,\"cause\":\"",
+        b"\n  refused: #, |\",\"answer\":\"refused\",\"number\":#,\"cause\":\"",
         n as usize,
     );
     word(
@@ -100,7 +96,7 @@ fn refused(json: bool, n: u32, place: u32) {
         cdef under 2 bytes or short\n\
         cdef count 0\n",
     );
-    field(json, b", box at #", b"\",\"place\":#", place as usize);
+    field(json, b", box at #|\",\"place\":#", place as usize);
 }
 
 fn record(json: bool, file: &[u8], jp2: Jp2) {
@@ -109,26 +105,17 @@ fn record(json: bool, file: &[u8], jp2: Jp2) {
     image(json, jp2.image);
     lists::list(
         json,
-        b"\n  BPCC:",
-        b",\"bpcc\":[",
+        b"\n  BPCC:|,\"bpcc\":[",
         Item::Component,
         file,
         l.bpcc,
     );
     colour(json, jp2.colour, l.icc);
     pclr(json, file, l.pclr);
+    lists::list(json, b"\n  cmap:|,\"cmap\":[", Item::Mapping, file, l.cmap);
     lists::list(
         json,
-        b"\n  cmap:",
-        b",\"cmap\":[",
-        Item::Mapping,
-        file,
-        l.cmap,
-    );
-    lists::list(
-        json,
-        b"\n  cdef:",
-        b",\"cdef\":[",
+        b"\n  cdef:|,\"cdef\":[",
         Item::Definition,
         file,
         l.cdef,
@@ -137,19 +124,18 @@ fn record(json: bool, file: &[u8], jp2: Jp2) {
 
 fn filetype(json: bool, file: &[u8], t: FileType, cl: Span) {
     if is_typeless(t, cl) {
-        text(json, b"\n  ftyp: none", b",\"ftyp\":null");
+        text(json, b"\n  ftyp: none|,\"ftyp\":null");
         return;
     }
-    text(json, b"\n  BR:", b",\"ftyp\":{\"BR\":");
+    text(json, b"\n  BR:|,\"ftyp\":{\"BR\":");
     brand(json, t.brand);
     field(
         json,
-        b"\n  MinV: #\n  CL:",
-        b",\"MinV\":#",
+        b"\n  MinV: #\n  CL:|,\"MinV\":#",
         t.minversion as usize,
     );
-    lists::list(json, b"", b",\"CL\":[", Item::Code, file, cl);
-    machine(json, b"}");
+    lists::list(json, b"|,\"CL\":[", Item::Code, file, cl);
+    text(json, b"|}");
 }
 
 // Whether the record has nothing of an ftyp box, or only one of zeros.
@@ -168,37 +154,34 @@ fn brand(json: bool, n: u32) {
 
 fn image(json: bool, image: Image) {
     if image.numcomps == 0 {
-        text(json, b"\n  ihdr: none", b",\"ihdr\":null");
+        text(json, b"\n  ihdr: none|,\"ihdr\":null");
         return;
     }
     pair(
         json,
-        b"\n  HEIGHT: #\n  WIDTH: #",
-        b",\"ihdr\":{\"HEIGHT\":#,\"WIDTH\":#",
+        b"\n  HEIGHT: #\n  WIDTH: #|,\"ihdr\":{\"HEIGHT\":#,\"WIDTH\":#",
         image.h,
         image.w,
     );
     pair(
         json,
-        b"\n  NC: #\n  BPC: # (",
-        b",\"NC\":#,\"BPC\":#",
+        b"\n  NC: #\n  BPC: # (|,\"NC\":#,\"BPC\":#",
         image.numcomps,
         image.bpc,
     );
     bpc(json, image.bpc);
     pair(
         json,
-        b"\n  C: #\n  UnkC: #",
-        b",\"C\":#,\"UnkC\":#",
+        b"\n  C: #\n  UnkC: #|,\"C\":#,\"UnkC\":#",
         image.c,
         image.unkc,
     );
-    field(json, b"\n  IPR: #", b",\"IPR\":#}", image.ipr as usize);
+    field(json, b"\n  IPR: #|,\"IPR\":#}", image.ipr as usize);
 }
 
 fn bpc(json: bool, b: u32) {
     if b == 255 {
-        say::people(json, b"the components differ)");
+        text(json, b"the components differ)|");
         return;
     }
     items::depth(json, b as usize);
@@ -206,19 +189,18 @@ fn bpc(json: bool, b: u32) {
 
 fn colour(json: bool, colour: Colour, icc: Span) {
     if is_colourless(colour) {
-        text(json, b"\n  colr: none", b",\"colr\":null");
+        text(json, b"\n  colr: none|,\"colr\":null");
         return;
     }
     method(json, colour.meth);
     pair(
         json,
-        b"\n  PREC: #\n  APPROX: #",
-        b",\"PREC\":#,\"APPROX\":#",
+        b"\n  PREC: #\n  APPROX: #|,\"PREC\":#,\"APPROX\":#",
         colour.precedence,
         colour.approx,
     );
     content(json, colour, icc);
-    machine(json, b"}");
+    text(json, b"|}");
 }
 
 // Whether the record has nothing of a colr box, or only one of zeros.
@@ -230,12 +212,7 @@ fn is_colourless(c: Colour) -> bool {
 }
 
 fn method(json: bool, meth: u32) {
-    field(
-        json,
-        b"\n  METH: # (",
-        b",\"colr\":{\"METH\":#",
-        meth as usize,
-    );
+    field(json, b"\n  METH: # (|,\"colr\":{\"METH\":#", meth as usize);
     note(
         json,
         meth as usize,
@@ -243,7 +220,7 @@ fn method(json: bool, meth: u32) {
         enumerated colour space\n\
         ICC profile\n",
     );
-    say::people(json, b")");
+    text(json, b")|");
 }
 
 fn content(json: bool, colour: Colour, icc: Span) {
@@ -261,20 +238,18 @@ fn content(json: bool, colour: Colour, icc: Span) {
 fn profile(json: bool, place: usize, size: usize) {
     field(
         json,
-        b"\n  PROFILE: # bytes at ",
-        b",\"PROFILE\":{\"place\":",
+        b"\n  PROFILE: # bytes at |,\"PROFILE\":{\"place\":",
         size,
     );
-    field(json, b"#", b"#", place);
-    field(json, b"", b",\"size\":#}", size);
+    field(json, b"#|#", place);
+    field(json, b"|,\"size\":#}", size);
 }
 
 // EnumCS, from 0: I.5.3.3, and Annex M of ISO/IEC 15444-2.
 fn space(json: bool, enumcs: u32) {
     field(
         json,
-        b"\n  EnumCS: # (",
-        b",\"EnumCS\":#,\"space\":\"",
+        b"\n  EnumCS: # (|,\"EnumCS\":#,\"space\":\"",
         enumcs as usize,
     );
     word(
@@ -305,7 +280,7 @@ fn space(json: bool, enumcs: u32) {
         YPbCr(1250/50)\n\
         e-sYCC\n",
     );
-    text(json, b")", b"\"");
+    text(json, b")|\"");
 }
 
 // The numbers of CIELab, as many of them as count.
@@ -313,10 +288,10 @@ fn lab(json: bool, l: Lab) {
     if l.count == 0 {
         return;
     }
-    text(json, b"\n  CIELab: ", b",\"CIELab\":[");
+    text(json, b"\n  CIELab: |,\"CIELab\":[");
     let numbers = l.numbers;
     say::join(json, first(&numbers, l.count as usize));
-    machine(json, b"]");
+    text(json, b"|]");
 }
 
 fn first(numbers: &[u32], n: usize) -> &[u32] {
@@ -328,18 +303,17 @@ fn first(numbers: &[u32], n: usize) -> &[u32] {
 
 fn pclr(json: bool, file: &[u8], p: Palette) {
     if p.columns == 0 {
-        machine(json, b",\"pclr\":null");
+        text(json, b"|,\"pclr\":null");
         return;
     }
     pair(
         json,
-        b"\n  pclr: NE #, NPC #",
-        b",\"pclr\":{\"NE\":#,\"NPC\":#,\"columns\":[",
+        b"\n  pclr: NE #, NPC #|,\"pclr\":{\"NE\":#,\"NPC\":#,\"columns\":[",
         p.entries,
         p.columns,
     );
     lists::columns(json, file, p);
-    machine(json, b"],\"entries\":[");
+    text(json, b"|],\"entries\":[");
     lists::entries(json, file, p);
-    machine(json, b"]}");
+    text(json, b"|]}");
 }

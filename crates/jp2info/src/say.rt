@@ -1,24 +1,15 @@
-// Pieces of output, each written at once. A piece has two forms, one for people and one of JSON.
+// Pieces of output, each written at once. A piece is one text with two forms: what people are told, a bar, and what JSON has.
 use libc::STDOUT_FILENO;
 
-pub fn text(json: bool, people: &[u8], machine: &[u8]) {
-    if json {
-        io::write_all(STDOUT_FILENO, machine);
-        return;
-    }
-    io::write_all(STDOUT_FILENO, people);
+pub fn text(json: bool, piece: &[u8]) {
+    io::write_all(STDOUT_FILENO, form(json, piece));
 }
 
-pub fn people(json: bool, s: &[u8]) {
-    if !json {
-        io::write_all(STDOUT_FILENO, s);
-    }
-}
-
-pub fn machine(json: bool, s: &[u8]) {
+fn form(json: bool, piece: &[u8]) -> &[u8] {
     if json {
-        io::write_all(STDOUT_FILENO, s);
+        return jp2_text::line(piece, b'|', 1);
     }
+    jp2_text::line(piece, b'|', 0)
 }
 
 // The end of what is said of a file. Where output no longer arrives, this is where it is noticed.
@@ -28,29 +19,14 @@ pub fn end(s: &[u8]) {
     }
 }
 
-// Shapes, in which # stands for the number.
-pub fn field(json: bool, people: &[u8], machine: &[u8], n: usize) {
-    if json {
-        filled(machine, n, 0);
-        return;
-    }
-    filled(people, n, 0);
+// A piece in which # stands for a number.
+pub fn field(json: bool, piece: &[u8], n: usize) {
+    filled(form(json, piece), n, 0);
 }
 
-// A shape for people alone.
-pub fn number(json: bool, shape: &[u8], n: usize) {
-    if !json {
-        filled(shape, n, 0);
-    }
-}
-
-// Shapes with two numbers.
-pub fn pair(json: bool, people: &[u8], machine: &[u8], a: u32, b: u32) {
-    if json {
-        filled(machine, a as usize, b as usize);
-        return;
-    }
-    filled(people, a as usize, b as usize);
+// A piece with two numbers.
+pub fn pair(json: bool, piece: &[u8], a: u32, b: u32) {
+    filled(form(json, piece), a as usize, b as usize);
 }
 
 fn filled(shape: &[u8], a: usize, b: usize) {
@@ -61,7 +37,7 @@ fn filled(shape: &[u8], a: usize, b: usize) {
 
 // Line n of some lines, from 0; "unknown" where it is empty or not there.
 pub fn word(n: usize, lines: &[u8]) {
-    let s = jp2_text::line(lines, n);
+    let s = jp2_text::line(lines, b'\n', n);
     if s.len() == 0 {
         io::write_all(STDOUT_FILENO, b"unknown");
         return;

@@ -16,7 +16,7 @@ first-line-requires : tie.Need-first-line-requires
 first-line-requires c κs = tt
 
 returns : tie.Need-returns
-returns c = c .first-line .ensures ∙ ap (line 0) (c .before .part .ensures ∙ part-rest (c .before .before .before .before .args .lines .now) (c .before .before .line-start .result)) ∙ c .before .before .line-start .ensures
+returns c = c .first-line .ensures ∙ ap (line (c .before .before .before .before .args .end) 0) (c .before .part .ensures ∙ part-rest (c .before .before .before .before .args .lines .now) (c .before .before .line-start .result)) ∙ c .before .before .line-start .ensures
 
 pub line-spec : {M : Type 1} → statement M
 line-spec = tie.close (tie.spec line-start-requires part-requires first-line-requires returns)
