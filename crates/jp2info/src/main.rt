@@ -40,7 +40,7 @@ fn each_word(count: usize, room: &mut [u8]) {
     }
 }
 
-// Argument i, one of the two words or a file's name. Whether files come as JSON from here on.
+// Argument i. Whether files come as JSON from here on.
 fn word(json: bool, i: usize, room: &mut [u8]) -> bool {
     let mut name = io::buffer();
     let n = os::arg(i, &mut name);
@@ -48,7 +48,11 @@ fn word(json: bool, i: usize, room: &mut [u8]) -> bool {
         load::complain(&name, b"..: File name too long\n");
         return json;
     }
-    let s = &name[..n];
+    obey(json, &name[..n], room)
+}
+
+// One of the two words, or a file's name.
+fn obey(json: bool, s: &[u8], room: &mut [u8]) -> bool {
     if is(s, b"--json") {
         return true;
     }

@@ -23,11 +23,7 @@ pub fn reading(json: bool, name: &[u8], file: &[u8], r: Reading) {
     text(json, b"|{\"file\":\"");
     say::quote(json, name);
     outcome(json, file, r);
-    if json {
-        say::end(b"}\n");
-        return;
-    }
-    say::end(b"\n");
+    say::end(json);
 }
 
 // Where reading ended comes before the record in JSON, and after it for people.
@@ -122,8 +118,9 @@ fn record(json: bool, file: &[u8], jp2: Jp2) {
     );
 }
 
+// Where brand, version and list are 0, there was no ftyp box, or one of zeros.
 fn filetype(json: bool, file: &[u8], t: FileType, cl: Span) {
-    if is_typeless(t, cl) {
+    if (cl.count | t.brand as usize | t.minversion as usize) == 0 {
         text(json, b"\n  ftyp: none|,\"ftyp\":null");
         return;
     }
@@ -136,14 +133,6 @@ fn filetype(json: bool, file: &[u8], t: FileType, cl: Span) {
     );
     lists::list(json, b"|,\"CL\":[", Item::Code, file, cl);
     text(json, b"|}");
-}
-
-// Whether the record has nothing of an ftyp box, or only one of zeros.
-fn is_typeless(t: FileType, cl: Span) -> bool {
-    if cl.count != 0 {
-        return false;
-    }
-    t.brand == 0 && t.minversion == 0
 }
 
 fn brand(json: bool, n: u32) {
@@ -187,8 +176,9 @@ fn bpc(json: bool, b: u32) {
     items::depth(json, b as usize);
 }
 
+// Where all that every method has is 0, there was no colr box, or one of zeros.
 fn colour(json: bool, colour: Colour, icc: Span) {
-    if is_colourless(colour) {
+    if (colour.held | colour.meth | colour.precedence | colour.approx) == 0 {
         text(json, b"\n  colr: none|,\"colr\":null");
         return;
     }
@@ -201,14 +191,6 @@ fn colour(json: bool, colour: Colour, icc: Span) {
     );
     content(json, colour, icc);
     text(json, b"|}");
-}
-
-// Whether the record has nothing of a colr box, or only one of zeros.
-fn is_colourless(c: Colour) -> bool {
-    if c.held != 0 {
-        return false;
-    }
-    c.meth == 0 && c.precedence == 0 && c.approx == 0
 }
 
 fn method(json: bool, meth: u32) {

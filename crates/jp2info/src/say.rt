@@ -13,8 +13,8 @@ fn form(json: bool, piece: &[u8]) -> &[u8] {
 }
 
 // The end of what is said of a file. Where output no longer arrives, this is where it is noticed.
-pub fn end(s: &[u8]) {
-    if !io::write_all(STDOUT_FILENO, s) {
+pub fn end(json: bool) {
+    if !io::write_all(STDOUT_FILENO, form(json, b"\n|}\n")) {
         os::fail(b"jp2info: standard output");
     }
 }
