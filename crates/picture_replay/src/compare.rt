@@ -3,55 +3,61 @@ use crate::list;
 use crate::put;
 use crate::say;
 
-// The place in the tally of what the picture came to: 31 where it differs or the list has ended, else 0 or the number of the refusal.
-pub fn all(picture: &[u8], answer: &[u64], records: &[u32], planes: &[i32]) -> u64 {
-    if picture.len() == 0 {
-        return 31;
+// The place in the tally of what picture i came to: 31 where it differs, else 0 or the number of the refusal.
+// A list that has ended differs: its numbers are 0, and no picture is finished of an empty file.
+pub fn outcome(i: u32, picture: &[u8], answer: &[u64], records: &[u32], planes: &[i32]) -> usize {
+    let a = first_number(picture, answer);
+    if a < 4 {
+        return differs(b"case #: the answer differs at #\n", i, a);
     }
-    if !same_answer(picture, answer) {
-        return 31;
+    let r = first_record(list::records(picture), records);
+    if r < records.len() {
+        return differs(b"case #: the records differ at #\n", i, r);
     }
-    if !same_records(list::records(picture), records) {
-        return 31;
+    let s = first_sample(list::numbers(list::planes(picture)), planes);
+    if s < planes.len() {
+        return differs(b"case #: the samples differ at #\n", i, s);
     }
-    if !same_samples(list::numbers(list::planes(picture)), planes) {
-        return 31;
-    }
-    crate::at(answer, 1)
+    crate::at(answer, 1) as usize
 }
 
-fn same_answer(picture: &[u8], answer: &[u64]) -> bool {
+fn differs(shape: &[u8], i: u32, k: usize) -> usize {
+    say(shape, &[i as usize, k]);
+    31
+}
+
+// The first number of the answer that differs, 4 where none does.
+fn first_number(picture: &[u8], answer: &[u64]) -> usize {
     let mut k = 0;
     while k < 4 {
         if crate::at(answer, k) != list::answer_number(picture, k) {
-            say::line(b"the answer differs at ", k as u64);
-            return false;
+            return k;
         }
         k = k + 1;
     }
-    true
+    k
 }
 
-fn same_records(listed: &[u8], records: &[u32]) -> bool {
+// The first record that differs, of those behind the picture too; all where none does.
+fn first_record(listed: &[u8], records: &[u32]) -> usize {
     let mut k = 0;
     while k < records.len() {
         if records[k] != put::expected(listed, k) {
-            say::line(b"the records differ at ", k as u64);
-            return false;
+            return k;
         }
         k = k + 1;
     }
-    true
+    k
 }
 
-fn same_samples(listed: &[u8], planes: &[i32]) -> bool {
+// The first sample that differs, in the same way.
+fn first_sample(listed: &[u8], planes: &[i32]) -> usize {
     let mut k = 0;
     while k < planes.len() {
         if planes[k] != list::signed(put::expected(listed, k)) {
-            say::line(b"the samples differ at ", k as u64);
-            return false;
+            return k;
         }
         k = k + 1;
     }
-    true
+    k
 }

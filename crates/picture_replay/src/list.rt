@@ -22,7 +22,7 @@ pub fn length(s: &[u8], i: usize, most: usize) -> usize
     if n <= most {
         return n;
     }
-    crate::say::line(b"no room for a list of ", n as u64);
+    crate::say(b"no room for a list of #\n", &[n]);
     most
 }
 

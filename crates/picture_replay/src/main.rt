@@ -6,18 +6,53 @@ ghost use lib.ListN.{length};
 mod compare;
 mod list;
 mod put;
-mod say;
 
+use libc::STDIN_FILENO;
+use libc::STDOUT_FILENO;
+
+// tally counts what the pictures come to: finished in place 0, the refusal n in place n, those that differ from the list in place 31.
 fn main() {
-    let mut path = io::buffer();
-    let n = os::arg(1, &mut path);
-    let fd = os::open_read(&path[..n]);
-    if fd < 0 {
-        os::fail(&path[..n]);
-        return;
-    }
-    replay_file(fd);
-    libc::close(fd);
+    let mut list = list_room();
+    let n = io::read_full(STDIN_FILENO, &mut list);
+    let mut room = samples_room();
+    let mut tally = [0usize; 32];
+    let cases = each_case(&list[..n], &mut room, &mut tally);
+    say(b"cases: #\n", &[cases as usize]);
+    say(
+        b"finished: #\n\
+           refused 1: #\n\
+           refused 2: #\n\
+           refused 3: #\n\
+           refused 4: #\n\
+           refused 5: #\n\
+           refused 6: #\n\
+           refused 7: #\n\
+           refused 8: #\n\
+           refused 9: #\n\
+           refused 10: #\n\
+           refused 11: #\n\
+           refused 12: #\n\
+           refused 13: #\n\
+           refused 14: #\n\
+           refused 15: #\n\
+           refused 16: #\n\
+           refused 17: #\n\
+           refused 18: #\n\
+           refused 19: #\n\
+           refused 20: #\n\
+           refused 21: #\n\
+           refused 22: #\n\
+           refused 23: #\n\
+           refused 24: #\n\
+           refused 25: #\n\
+           refused 26: #\n\
+           refused 27: #\n\
+           refused 28: #\n\
+           refused 29: #\n\
+           refused 30: #\n\
+           differing: #\n",
+        &tally,
+    );
 }
 
 // The list has to fit in.
@@ -34,32 +69,29 @@ fn samples_room() -> [i32; 261120]
     [0; 261120]
 }
 
-// tally counts what the pictures come to: finished in place 0, the refusal n in place n, those that differ from the list in place 31.
-fn replay_file(fd: i32) {
-    let mut list = list_room();
-    let n = io::read_full(fd, &mut list);
-    let mut room = samples_room();
-    let mut tally = [0u64; 32];
-    let cases = each_case(&list[..n], &mut room, &mut tally);
-    say::counts(cases, &tally);
+// A shape in which each # stands for the next of the numbers.
+pub fn say(shape: &[u8], numbers: &[usize]) {
+    let mut d = io::buffer();
+    let n = jp2_text::fill(&mut d, 0, shape, numbers);
+    io::write_all(STDOUT_FILENO, jp2_cio::part(&d, 0, n));
 }
 
 // How many cases there are.
-fn each_case(list: &[u8], room: &mut [i32], tally: &mut [u64]) -> u32 {
+fn each_case(list: &[u8], room: &mut [i32], tally: &mut [usize]) -> u32 {
     let cases = list::number(list, 0);
     let mut rest = jp2_cio::part(list, 4, list.len());
     let mut i: u32 = 0;
     while i < cases {
         let taken = list::bytes(rest);
-        count(tally, i, case(rest, room));
+        count(tally, case(i, rest, room));
         rest = &rest[taken..];
         i = i + 1;
     }
     cases
 }
 
-// The place in the tally of what a picture comes to. Its lists are laid out first.
-fn case(picture: &[u8], room: &mut [i32]) -> u64 {
+// The place in the tally of what picture i comes to. Its lists are laid out first.
+fn case(i: u32, picture: &[u8], room: &mut [i32]) -> usize {
     let mut comps = [0u32; 128];
     let mut samples = [0i32; 128];
     let mut records = [0u32; 128];
@@ -73,6 +105,7 @@ fn case(picture: &[u8], room: &mut [i32]) -> u64 {
     let records_length = list::length(rooms, 0, 128);
     let planes_length = list::length(rooms, 1, room.len());
     outcome(
+        i,
         picture,
         &comps[..comps_length],
         &samples[..samples_length],
@@ -83,12 +116,13 @@ fn case(picture: &[u8], room: &mut [i32]) -> u64 {
 
 // The same, with the lists lent. No answer is 9 9 9 9.
 fn outcome(
+    i: u32,
     picture: &[u8],
     comps: &[u32],
     samples: &[i32],
     records: &mut [u32],
     planes: &mut [i32],
-) -> u64 {
+) -> usize {
     let mut answer = [9u64; 4];
     let flag = list::flag(picture);
     put::pattern(records, planes);
@@ -102,7 +136,7 @@ fn outcome(
         planes,
         &mut answer,
     );
-    compare::all(picture, &answer, records, planes)
+    compare::outcome(i, picture, &answer, records, planes)
 }
 
 // What the export promises is left aside: the list decides.
@@ -119,14 +153,9 @@ fn finish(
     jp2_export::cuzhantir_picture(file, ignore, comps, count, samples, records, planes, answer);
 }
 
-// A picture that differs is said.
-fn count(tally: &mut [u64], i: u32, outcome: u64) {
-    if outcome == 31 {
-        say::line(b"in case ", i as u64);
-    }
-    let k = outcome as usize;
+fn count(tally: &mut [usize], k: usize) {
     if k < tally.len() {
-        tally[k] = std::num::wrapping_add_u64(tally[k], 1);
+        tally[k] = std::num::wrapping_add_usize(tally[k], 1);
     }
 }
 

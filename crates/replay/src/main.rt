@@ -4,19 +4,53 @@
 ghost use Prim.Native.Nat.{_≤_};
 ghost use mathlib.Core.Path.{_≡_};
 ghost use lib.ListN.{length};
+use libc::STDIN_FILENO;
+use libc::STDOUT_FILENO;
 
-mod say;
-
+// tally counts what the files come to: the codestream in place 0, the refusal n in place n, "ended" in place 25, those that differ from the list in place 26.
 fn main() {
-    let mut path = io::buffer();
-    let n = os::arg(1, &mut path);
-    let fd = os::open_read(&path[..n]);
-    if fd < 0 {
-        os::fail(&path[..n]);
-        return;
-    }
-    replay_file(fd);
-    libc::close(fd);
+    let mut list = room();
+    let n = io::read_full(STDIN_FILENO, &mut list);
+    let mut tally = [0usize; 27];
+    let cases = each_case(&list[..n], &mut tally);
+    say(b"cases: #\n", &[cases as usize]);
+    say(
+        b"codestream: #\n\
+          refused 1: #\n\
+          refused 2: #\n\
+          refused 3: #\n\
+          refused 4: #\n\
+          refused 5: #\n\
+          refused 6: #\n\
+          refused 7: #\n\
+          refused 8: #\n\
+          refused 9: #\n\
+          refused 10: #\n\
+          refused 11: #\n\
+          refused 12: #\n\
+          refused 13: #\n\
+          refused 14: #\n\
+          refused 15: #\n\
+          refused 16: #\n\
+          refused 17: #\n\
+          refused 18: #\n\
+          refused 19: #\n\
+          refused 20: #\n\
+          refused 21: #\n\
+          refused 22: #\n\
+          refused 23: #\n\
+          refused 24: #\n\
+          ended: #\n\
+          differing: #\n",
+        &tally,
+    );
+}
+
+// A shape in which each # stands for the next of the numbers.
+fn say(shape: &[u8], numbers: &[usize]) {
+    let mut d = io::buffer();
+    let n = jp2_text::fill(&mut d, 0, shape, numbers);
+    io::write_all(STDOUT_FILENO, jp2_cio::part(&d, 0, n));
 }
 
 // The list has to fit in.
@@ -26,34 +60,18 @@ fn room() -> [u8; 1500000]
     [0; 1500000]
 }
 
-fn replay_file(fd: i32) {
-    let mut list = room();
-    let n = io::read_full(fd, &mut list);
-    let mut tally = [0u64; 26];
-    replay(&list[..n], &mut tally);
-}
-
-// tally counts what the files come to: the codestream in place 0, the refusal n in place n, "ended" in place 25.
-fn replay(list: &[u8], tally: &mut [u64]) {
+// How many cases there are.
+fn each_case(list: &[u8], tally: &mut [usize]) -> u32 {
     let cases = jp2_cio::read_u32(list, 0);
-    let agreed = each_case(jp2_cio::part(list, 4, list.len()), cases, tally);
-    say::counts(tally);
-    say::line(b"cases: ", cases as u64);
-    say::line(b"agreed: ", agreed as u64);
-}
-
-// How many of the cases agree.
-fn each_case(list: &[u8], cases: u32, tally: &mut [u64]) -> u32 {
-    let mut rest = list;
-    let mut agreed: u32 = 0;
+    let mut rest = jp2_cio::part(list, 4, list.len());
     let mut i: u32 = 0;
     while i < cases {
         let taken = case_length(rest);
-        agreed = agreed + case(i, rest, tally);
+        count(tally, case(i, rest));
         rest = &rest[taken..];
         i = i + 1;
     }
-    agreed
+    cases
 }
 
 // The bytes of the first case of the rest.
@@ -68,46 +86,40 @@ fn case_length(rest: &[u8]) -> usize
     }
 }
 
-// 1 where all numbers of the file's reading are those of the answer, else 0.
-fn case(i: u32, rest: &[u8], tally: &mut [u64]) -> u32
-    ensures { λ r. ⌜ r ≤ 1 ⌝ }
-{
+// The place in the tally of what file i comes to.
+fn case(i: u32, rest: &[u8]) -> usize {
     let end = jp2_cio::read_u32(rest, 0) as usize + 4;
     let mut numbers = [0u64; 44];
     jp2_export::cuzhantir_read(jp2_cio::part(rest, 4, end), &mut numbers);
-    count(tally, outcome(&numbers));
-    compare(i, jp2_cio::part(rest, end, rest.len()), &numbers)
+    outcome(i, jp2_cio::part(rest, end, rest.len()), &numbers)
 }
 
-fn compare(i: u32, answer: &[u8], numbers: &[u64]) -> u32
-    ensures { λ r. ⌜ r ≤ 1 ⌝ }
-{
+// The same, once it is read: the first number that differs is said.
+fn outcome(i: u32, answer: &[u8], numbers: &[u64]) -> usize {
     let first = first_difference(answer, numbers);
-    if first == 44 {
-        return 1;
+    if first < 44 {
+        let listed = jp2_cio::read_u32(answer, first * 4);
+        say(
+            b"case #, number #: #, and not #\n",
+            &[
+                i as usize,
+                first,
+                at(numbers, first) as usize,
+                listed as usize,
+            ],
+        );
+        return 26;
     }
-    say::difference(
-        i,
-        first,
-        at(numbers, first),
-        jp2_cio::read_u32(answer, first * 4),
-    );
-    0
-}
-
-// The place in the tally of what a file came to.
-fn outcome(numbers: &[u64]) -> u64 {
     match at(numbers, 0) {
         0 => 0,
         1 => 25,
-        _ => at(numbers, 1),
+        _ => at(numbers, 1) as usize,
     }
 }
 
-fn count(tally: &mut [u64], outcome: u64) {
-    let k = outcome as usize;
+fn count(tally: &mut [usize], k: usize) {
     if k < tally.len() {
-        tally[k] = std::num::wrapping_add_u64(tally[k], 1);
+        tally[k] = std::num::wrapping_add_usize(tally[k], 1);
     }
 }
 
@@ -126,6 +138,6 @@ fn first_difference(answer: &[u8], numbers: &[u64]) -> usize
 }
 
 // Number i, 0 past the last.
-pub fn at(numbers: &[u64], i: usize) -> u64 {
+fn at(numbers: &[u64], i: usize) -> u64 {
     if i < numbers.len() { numbers[i] } else { 0 }
 }

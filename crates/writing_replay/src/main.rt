@@ -8,19 +8,36 @@
 ghost use Prim.Native.Nat.{_≤_};
 ghost use mathlib.Core.Path.{_≡_};
 ghost use lib.ListN.{length};
+use libc::STDIN_FILENO;
+use libc::STDOUT_FILENO;
 
-mod say;
-
+// tally counts what the requests come to: written in place 0, the refusal n in place n, those that differ from the list in place 35.
 fn main() {
-    let mut path = io::buffer();
-    let n = os::arg(1, &mut path);
-    let fd = os::open_read(&path[..n]);
-    if fd < 0 {
-        os::fail(&path[..n]);
-        return;
-    }
-    replay_file(fd);
-    libc::close(fd);
+    let mut list = room();
+    let n = io::read_full(STDIN_FILENO, &mut list);
+    let mut comps = [0u32; 4096];
+    let mut d = [0u8; 4096];
+    let mut tally = [0usize; 36];
+    let cases = each_case(&list[..n], &mut comps, &mut d, &mut tally);
+    say(b"cases: #\n", &[cases as usize]);
+    say(b"written: #\n", &tally);
+    say(
+        b"refused 29: #\n\
+          refused 30: #\n\
+          refused 31: #\n\
+          refused 32: #\n\
+          refused 33: #\n\
+          refused 34: #\n\
+          differing: #\n",
+        &tally[29..],
+    );
+}
+
+// A shape in which each # stands for the next of the numbers.
+fn say(shape: &[u8], numbers: &[usize]) {
+    let mut d = io::buffer();
+    let n = jp2_text::fill(&mut d, 0, shape, numbers);
+    io::write_all(STDOUT_FILENO, jp2_cio::part(&d, 0, n));
 }
 
 // The list has to fit in.
@@ -30,36 +47,18 @@ fn room() -> [u8; 1000000]
     [0; 1000000]
 }
 
-fn replay_file(fd: i32) {
-    let mut list = room();
-    let n = io::read_full(fd, &mut list);
-    let mut comps = [0u32; 4096];
-    let mut d = [0u8; 4096];
-    let mut tally = [0u64; 35];
-    replay(&list[..n], &mut comps, &mut d, &mut tally);
-}
-
-// tally counts what the requests come to: written in place 0, the refusal n in place n.
-fn replay(list: &[u8], comps: &mut [u32], d: &mut [u8], tally: &mut [u64]) {
+// How many cases there are.
+fn each_case(list: &[u8], comps: &mut [u32], d: &mut [u8], tally: &mut [usize]) -> u32 {
     let cases = jp2_cio::read_u32(list, 0);
-    let agreed = each_case(jp2_cio::part(list, 4, list.len()), cases, comps, d, tally);
-    say::counts(tally);
-    say::line(b"cases: ", cases as u64);
-    say::line(b"agreed: ", agreed as u64);
-}
-
-// How many of the cases agree.
-fn each_case(list: &[u8], cases: u32, comps: &mut [u32], d: &mut [u8], tally: &mut [u64]) -> u32 {
-    let mut rest = list;
-    let mut agreed: u32 = 0;
+    let mut rest = jp2_cio::part(list, 4, list.len());
     let mut i: u32 = 0;
     while i < cases {
         let taken = case_length(rest);
-        agreed = agreed + case(i, rest, comps, d, tally);
+        count(tally, case(i, rest, comps, d));
         rest = &rest[taken..];
         i = i + 1;
     }
-    agreed
+    cases
 }
 
 // The bytes of the first case of the rest.
@@ -75,7 +74,7 @@ fn case_length(rest: &[u8]) -> usize
 }
 
 // Number i of the case.
-pub fn number(rest: &[u8], i: usize) -> u32
+fn number(rest: &[u8], i: usize) -> u32
     requires { ⌜ i ≤ 14 ⌝ }
 {
     jp2_cio::read_u32(rest, i * 4)
@@ -99,16 +98,13 @@ fn bytes_end(rest: &[u8]) -> usize {
     profile_end(rest) + number(rest, 14) as usize
 }
 
-// 1 where the answer and the destination are those of the list, else 0.
-fn case(i: u32, rest: &[u8], comps: &mut [u32], d: &mut [u8], tally: &mut [u64]) -> u32
-    ensures { λ r. ⌜ r ≤ 1 ⌝ }
-{
+// The place in the tally of what request i comes to.
+fn case(i: u32, rest: &[u8], comps: &mut [u32], d: &mut [u8]) -> usize {
     let mut answer = [0u64; 4];
     take_numbers(jp2_cio::part(rest, 60, rest.len()), comps);
     fill(d);
     write_in_first(rest, comps, d, &mut answer);
-    count(tally, at(&answer, 1));
-    compare(i, rest, d, &answer)
+    outcome(i, rest, d, &answer)
 }
 
 fn take_numbers(list: &[u8], comps: &mut [u32]) {
@@ -167,28 +163,43 @@ fn write(rest: &[u8], comps: &[u32], d: &mut [u8], answer: &mut [u64]) {
     );
 }
 
-fn count(tally: &mut [u64], outcome: u64) {
-    let k = outcome as usize;
+fn count(tally: &mut [usize], k: usize) {
     if k < tally.len() {
-        tally[k] = std::num::wrapping_add_u64(tally[k], 1);
+        tally[k] = std::num::wrapping_add_usize(tally[k], 1);
     }
 }
 
-fn compare(i: u32, rest: &[u8], d: &[u8], answer: &[u64]) -> u32
-    ensures { λ r. ⌜ r ≤ 1 ⌝ }
-{
+// The same, once it is written: 35 where the answer or the destination is not that of the list, and the first difference is said.
+fn outcome(i: u32, rest: &[u8], d: &[u8], answer: &[u64]) -> usize {
     let first = first_number(rest, answer);
     if first < 4 {
-        say::number(i, first, at(answer, first), number(rest, first + 11));
-        return 0;
+        let listed = number(rest, first + 11);
+        say(
+            b"case #, number #: #, and not #\n",
+            &[
+                i as usize,
+                first,
+                at(answer, first) as usize,
+                listed as usize,
+            ],
+        );
+        return 35;
     }
     let bytes = jp2_cio::part(rest, profile_end(rest), bytes_end(rest));
     let place = first_byte(bytes, d);
     if place < d.len() {
-        say::byte(i, place, d[place], wanted(bytes, place));
-        return 0;
+        say(
+            b"case #, byte #: #, and not #\n",
+            &[
+                i as usize,
+                place,
+                jp2_cio::read_u8(d, place) as usize,
+                wanted(bytes, place) as usize,
+            ],
+        );
+        return 35;
     }
-    1
+    at(answer, 1) as usize
 }
 
 // The first of the four numbers that differs, 4 where all are the same.
@@ -227,6 +238,6 @@ fn wanted(bytes: &[u8], i: usize) -> u8 {
 }
 
 // Number i, 0 past the last.
-pub fn at(numbers: &[u64], i: usize) -> u64 {
+fn at(numbers: &[u64], i: usize) -> u64 {
     if i < numbers.len() { numbers[i] } else { 0 }
 }

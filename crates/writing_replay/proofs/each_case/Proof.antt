@@ -9,10 +9,16 @@ use Rattle.writing_replay.proofs.each_case.Statement.{statement}
 use Rattle.writing_replay.proofs.each_case.Tie as tie
 
 abbrev Inv-loop : tie.InvT-loop
-Inv-loop list cases comps₀ d₀ tally₀ rest₀ agreed₀ i₀ comps d tally rest agreed i = (i ≤ cases) × (agreed ≤ i) × (length comps ≡ length comps₀) × (length d ≡ length d₀) × (length tally ≡ length tally₀)
+Inv-loop list comps₀ d₀ tally₀ cases rest₀ i₀ comps d tally rest i = (i ≤ cases) × (length comps ≡ length comps₀) × (length d ≡ length d₀) × (length tally ≡ length tally₀)
 
 abbrev μ-loop : tie.MeasureT-loop
-μ-loop list cases comps₀ d₀ tally₀ rest₀ agreed₀ i₀ comps d tally rest agreed i = cases - i
+μ-loop list comps₀ d₀ tally₀ cases rest₀ i₀ comps d tally rest i = cases - i
+
+read-u32-requires : tie.Need-read-u32-requires Inv-loop μ-loop
+read-u32-requires c κs = search needs
+
+part-requires : tie.Need-part-requires Inv-loop μ-loop
+part-requires c κs = search needs
 
 loop-holds : tie.Need-loop-holds Inv-loop μ-loop
 loop-holds c = omega arith
@@ -23,8 +29,8 @@ case-length-requires c κs = search needs
 case-requires : tie.Need-case-requires Inv-loop μ-loop
 case-requires c κs = search needs
 
-add-agreed : tie.Need-add-agreed Inv-loop μ-loop
-add-agreed c = omega arith
+count-requires : tie.Need-count-requires Inv-loop μ-loop
+count-requires c κs = search needs
 
 sub-rest : tie.Need-sub-rest Inv-loop μ-loop
 sub-rest c = omega arith
@@ -45,13 +51,13 @@ loop-again : tie.Need-loop-again Inv-loop μ-loop
 loop-again c = omega arith
 
 same-length : tie.Need-same-length Inv-loop μ-loop
-same-length c = c .before .loop .inv .2
+same-length c = omega arith
 
 same-length-2 : tie.Need-same-length-2 Inv-loop μ-loop
-same-length-2 c = c .before .loop .inv .3
+same-length-2 c = omega arith
 
 same-length-3 : tie.Need-same-length-3 Inv-loop μ-loop
-same-length-3 c = c .before .loop .inv .4
+same-length-3 c = omega arith
 
 returns : tie.Need-returns Inv-loop μ-loop
 returns c = search needs
@@ -62,10 +68,12 @@ each-case-spec =
     (tie.spec
     Inv-loop
     μ-loop
+    read-u32-requires
+    part-requires
     loop-holds
     case-length-requires
     case-requires
-    add-agreed
+    count-requires
     sub-rest
     part-rest-start
     part-rest-end
