@@ -9,12 +9,6 @@ ghost use Rattle.jp2_text.specs.Text.{put, after, decimal, filled, joine
 ghost use Rattle.jp2_text.specs.Row.{values};
 ghost use Rattle.jp2_text.specs.Parts.{letter, marks, gap};
 
-mod quoting;
-mod utf8;
-
-pub use quoting::quote;
-pub use utf8::character;
-
 fn byte(d: &mut [u8], at: usize, b: u8) -> usize
     ensures { λ r. ⌜ (r ≡ after (now (d .entry)) at (b ∷ [])) × (now (d .exit) ≡ put (now (d .entry)) at (b ∷ [])) ⌝ }
 {

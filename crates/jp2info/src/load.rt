@@ -57,5 +57,5 @@ pub fn complain(name: &[u8], reason: &[u8]) {
 // The name, of 4096 bytes at most, has room in the list even where each byte takes four.
 fn head(d: &mut [u8], name: &[u8]) -> usize {
     let at = jp2_text::text(d, 0, b"jp2info: ");
-    jp2_text::quote(d, at, false, name)
+    jp2_quote::quote(d, at, false, name)
 }

@@ -55,7 +55,7 @@ pub fn note(json: bool, n: usize, lines: &[u8]) {
 // A text from outside: a file's name, of 4096 bytes at most, or a brand. It has room even where each byte takes six.
 pub fn quote(json: bool, s: &[u8]) {
     let mut d = io::large_buffer();
-    let n = jp2_text::quote(&mut d, 0, json, s);
+    let n = jp2_quote::quote(&mut d, 0, json, s);
     io::write_all(STDOUT_FILENO, jp2_cio::part(&d, 0, n));
 }
 
