@@ -77,7 +77,7 @@ pub fn name(ty: Jp2BoxType) {
     }
     let names =
         b"None\nJPIP\nJP\nFTYP\nJP2H\nIHDR\nCOLR\nJP2C\nURL\nPCLR\nCMAP\nCDEF\nDTBL\nBPCC\nJP2\nRES\nJP2I\nXML\nUUID\nUINF\n";
-    text(jp2_text::line(names, place(ty)));
+    text(jp2_text::line(names, b'\n', place(ty)));
 }
 
 // Where the name of a kind stands among the names.

@@ -1,61 +1,29 @@
--- Bytes that are placed in a list, and a number that is read back from its bytes.
+-- The bytes of a number, placed in a list and read back.
 -- Assumes nothing.
 use Prim.Native.Nat.{ℕ, zero, suc, _+_, _-_, _*_, _/_, _%_, _^_, _≤_, _<_}
-use native.Mathlib.Nat.{add-zero, mod-one, pow-suc, one-le-pow, div-add-mod', mod-lt, mod-eq-of-lt, mul-add-mod-self-right}
+use native.Mathlib.Nat.{mod-one, pow-suc, one-le-pow, div-add-mod', mod-lt, mod-eq-of-lt, mul-add-mod-self-right}
 use native.Mathlib.Omega.{arith}
 use mathlib.Core.Path.{_≡_, refl, sym, ap, _∙_}
-use mathlib.Core.List.{List, [], _∷_, _++_, append-assoc, append-nil}
-use lib.ListN.{length, getD, take, drop, set, length-append, length-take, length-drop, take-append-drop}
-use lib.Seq.{drop-drop, set-split, take-set-le, drop-at, getD-at, length-take-le, take-append-le, take-at}
+use mathlib.Core.List.{List, [], _∷_, _++_, append-assoc}
+use lib.ListN.{length, take, drop, set, length-append}
+use lib.Seq.{getD-at, length-take-le}
 use Rattle.jp2_cio.specs.Number.{number, bytes, placed, written, NumberReadBack}
 use Rattle.jp2_cio.proofs.Rows.{row}
+use Rattle.jp2_cio.proofs.Placing.{length-placed, placed-last, placed-then}
 
 pub length-bytes : (n v : ℕ) → length (bytes n v) ≡ n
 unfolding bytes
 length-bytes zero v = refl
 length-bytes (suc n) v = let e = length-bytes n (v / 256) in simp length-append (omega arith)
 
-module _ (d : List ℕ) (at : ℕ) where
-  pub placed-none : placed d at [] ≡ d
-  unfolding placed
-  placed-none = rw (append-nil, add-zero) (take-append-drop at d)
-
-  pub length-placed : (xs : List ℕ) → at + length xs ≤ length d → length (placed d at xs) ≡ length d
-  unfolding placed
-  length-placed xs h = simp (length-append, length-take, length-drop) (omega arith)
-
-  -- the last byte may be set first
-  pub placed-last : (xs : List ℕ) (b : ℕ) → at + length xs < length d → placed (set d (at + length xs) b) at xs ≡ placed d at (xs ++ (b ∷ []))
-  unfolding placed
-  placed-last xs b h =
-      let e : drop (at + length xs) (set d (at + length xs) b) ≡ b ∷ drop (suc (at + length xs)) d =
-      rw (set-split d (at + length xs) b h) (drop-at (take (at + length xs) d) (b ∷ drop (suc (at + length xs)) d) (at + length xs) (length-take-le (at + length xs) d (omega arith)))
-      in
-      let l : at + length (xs ++ (b ∷ [])) ≡ suc (at + length xs) = simp length-append (omega arith) in
-      rw (e, l, take-set-le at d (at + length xs) b (omega arith)) (simp append-assoc)
-
-  -- the bytes of a number, its lowest first
-  pub placed-low : (left v : ℕ) → 0 < left → at + left ≤ length d → placed (set d (at + (left - 1)) (v % 256)) at (bytes (left - 1) (v / 256)) ≡ placed d at (bytes left v)
-  unfolding bytes
-  placed-low zero v p h = absurd (omega arith)
-  placed-low (suc n) v p h =
-      let e : suc n - 1 ≡ n = omega arith in
-      let l = length-bytes n (v / 256) in
-      rw e (rw l at (placed-last (bytes n (v / 256)) (v % 256) (omega arith)))
-
-  -- one piece after the other
-  pub placed-then : (xs ys : List ℕ) → at + (length xs + length ys) ≤ length d → placed (placed d at xs) (at + length xs) ys ≡ placed d at (xs ++ ys)
-  unfolding placed
-  placed-then xs ys h =
-      let k = at + length xs in
-      let p = take at d ++ xs in
-      let l : length p ≡ k = simp (length-append, length-take) (omega arith) in
-      let t : take k (p ++ drop k d) ≡ p = take-at p (drop k d) k l in
-      let r : drop (k + length ys) (p ++ drop k d) ≡ drop (k + length ys) d =
-      sym (drop-drop (length ys) k (p ++ drop k d)) ∙ ap (λ (x : List ℕ). drop (length ys) x) (drop-at p (drop k d) k l) ∙ drop-drop (length ys) k d
-      in
-      let e : at + length (xs ++ ys) ≡ k + length ys = simp length-append (omega arith) in
-      rw (t, r, e) (simp append-assoc)
+-- the bytes of a number, its lowest first
+pub placed-low : (d : List ℕ) (at left v : ℕ) → 0 < left → at + left ≤ length d → placed (set d (at + (left - 1)) (v % 256)) at (bytes (left - 1) (v / 256)) ≡ placed d at (bytes left v)
+unfolding bytes
+placed-low d at zero v p h = absurd (omega arith)
+placed-low d at (suc n) v p h =
+    let e : suc n - 1 ≡ n = omega arith in
+    let l = length-bytes n (v / 256) in
+    rw e (rw l at (placed-last d at (bytes n (v / 256)) (v % 256) (omega arith)))
 
 -- a number that has room is placed
 pub written-fits : (d : List ℕ) (at n v : ℕ) → n ≤ 4 → at + n ≤ length d → written d at n v ≡ placed d at (bytes n v)

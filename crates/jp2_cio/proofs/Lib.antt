@@ -1,3 +1,5 @@
 pub mod Rows
 pub mod Numbers
+pub mod Placing
+pub mod Pieces
 pub mod Bytes

@@ -4,7 +4,7 @@ use mathlib.Core.Path.{_≡_}
 use mathlib.Core.Bool.{Bool, true, false}
 use mathlib.Core.List.{List, [], _∷_, _++_}
 use lib.ListN.{length, getD, take, drop}
-use Rattle.jp2_cio.specs.Table.{Test, _<?_, _or_, Rows, otherwise, _⇒_∣_, table}
+use Rattle.jp2_cio.specs.Table.{Test, _<?_, _or_, otherwise, _⇒_∣_, table}
 
 -- the number in the given count of bytes that starts at a place of c
 unfoldable pub number : List ℕ → ℕ → ℕ → ℕ
@@ -23,8 +23,8 @@ unfoldable pub bytes : ℕ → ℕ → List ℕ
 bytes zero v = []
 bytes (suc n) v = bytes n (v / 256) ++ (v % 256 ∷ [])
 
--- d with other bytes from a place on, and the rest as it was
-unfoldable pub placed : List ℕ → ℕ → List ℕ → List ℕ
+-- d with others from a place on, and the rest as it was
+unfoldable pub placed : {A : Type 0} → List A → ℕ → List A → List A
 placed d at xs = take at d ++ xs ++ drop (at + length xs) d
 
 -- a number has at most 4 bytes, and they have to lie in d; of 0 bytes nothing is written, which always has room inside d

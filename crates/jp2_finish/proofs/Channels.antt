@@ -3,26 +3,27 @@
 use Prim.Native.Nat.{ℕ, suc, _+_, _*_, _≤_, _<_}
 use native.Mathlib.Numerals.{add-one}
 use native.Mathlib.Omega.{arith}
-use mathlib.Core.Path.{_≡_, refl, sym, ap, ap₂, subst, _∙_}
-use mathlib.Core.Bool.{Bool, true, false}
-use mathlib.Core.List.{List, [], _++_, append-nil}
+use mathlib.Core.Path.{_≡_, refl, sym, ap, ap₂, _∙_}
+use mathlib.Core.Bool.{Bool, false}
+use mathlib.Core.List.{List, _++_}
 use lib.IntN.{ℤ}
-use lib.ListN.{length, drop, length-append, length-drop}
+use lib.ListN.{length, length-append, length-drop}
 use Rattle.jp2_cio.specs.Table.{_=?_, _and_, holds, table}
 use Rattle.jp2_cio.proofs.Rows.{Says}
 use Rattle.jp2_record.specs.declared.Jp2.{Jp2}
 use Rattle.jp2_order.specs.Flat.{flat}
 use Rattle.jp2_order.proofs.Flats.{flat-length, flat-next}
-use Rattle.jp2_picture.specs.Image.{Image, image, first, none, size}
+use Rattle.jp2_picture.specs.Image.{Image, image, first, size}
 use Rattle.jp2_picture.specs.Channels.{mapped, corrected, channels, componentOf, typeOf}
 use Rattle.jp2_picture.specs.Samples.{channelSamples, packed, startOf}
-use Rattle.jp2_picture.specs.Finish.{outsideFile, expanded}
+use Rattle.jp2_picture.specs.Finish.{expanded}
 use Rattle.jp2_picture.proofs.Indices.{decide}
-use Rattle.jp2_picture.proofs.Packs.{Within, Held, size-some, start-more, packed-length}
+use Rattle.jp2_picture.proofs.Packs.{Held, size-some, start-more, packed-length}
 use Rattle.jp2_picture.proofs.Mappings.{kept, mapped-channels, plain-type, component-inside}
-use Rattle.jp2_plane.specs.Plane.{placed, noColumn}
+use Rattle.jp2_cio.specs.Number.{placed}
+use Rattle.jp2_plane.specs.Plane.{noColumn}
 use Rattle.jp2_plane.proofs.Columns.{channel-is}
-use Rattle.jp2_plane.proofs.Placing.{placed-after}
+use Rattle.jp2_cio.proofs.Placing.{placed-after}
 use Rattle.jp2_comps.specs.Alone.{listed, mappings}
 use Rattle.jp2_finish.specs.Answers.{fronted}
 use Rattle.jp2_finish.specs.Parts.{typeAt, expandedAt, recordAt, samplesAt, Packable, Tested, Roomy, unordered}

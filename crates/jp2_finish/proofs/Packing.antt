@@ -1,8 +1,7 @@
 -- The samples of one channel at a place of a destination.
 -- Assumes nothing.
-use Prim.Native.Nat.{ℕ, _+_}
+use Prim.Native.Nat.{ℕ}
 use native.Mathlib.Nat.{add-zero}
-use native.Mathlib.Omega.{arith}
 use mathlib.Core.Path.{_≡_, refl, sym, _∙_}
 use mathlib.Core.List.{List, map, append-nil}
 use lib.IntN.{ℤ}
@@ -10,9 +9,10 @@ use lib.ListN.{length, take, take-append-drop}
 use Rattle.jp2_cio.specs.Table.{_=?_, _or_, _and_}
 use Rattle.jp2_cio.proofs.Rows.{row}
 use Rattle.jp2_record.specs.declared.Palette.{Palette}
-use Rattle.jp2_picture.specs.Image.{first, none, size}
 use Rattle.jp2_picture.specs.Samples.{valueFor}
-use Rattle.jp2_plane.specs.Plane.{plane, placed, put, outside, noColumn}
+use Rattle.jp2_picture.specs.Image.{first, none, size}
+use Rattle.jp2_cio.specs.Number.{placed}
+use Rattle.jp2_plane.specs.Plane.{plane, put, outside, noColumn}
 use Rattle.jp2_comps.specs.Alone.{listed}
 use Rattle.jp2_finish.specs.Parts.{samplesAt, Packable}
 

@@ -4,7 +4,7 @@ ghost use Prim.Native.Nat.{ℕ, _+_, _*_, _≤_, _<_};
 ghost use mathlib.Core.Path.{_≡_};
 ghost use lib.ListN.{length};
 ghost use Rattle.jp2_cio.specs.Table.{_and_, holds};
-ghost use Rattle.jp2_plane.specs.Plane.{placed};
+ghost use Rattle.jp2_cio.specs.Number.{placed};
 ghost use Rattle.jp2_cdef.specs.Flat.{reordered};
 ghost use Rattle.jp2_picture.specs.Image.{image, size};
 ghost use Rattle.jp2_picture.specs.Channels.{lowest, mapped, corrected, componentOf};

@@ -21,7 +21,8 @@ use Rattle.jp2_picture.specs.Image.{Image, first, size}
 use Rattle.jp2_picture.specs.Channels.{componentOf, typeOf}
 use Rattle.jp2_picture.specs.Samples.{floored, held, displayed, lookup, valueOf, channelSamples, valueFor}
 use Rattle.jp2_picture.proofs.Rests.{rest-length, rest-number, rest-row}
-use Rattle.jp2_plane.specs.Plane.{plane, placed, column, entryFor}
+use Rattle.jp2_cio.specs.Number.{placed}
+use Rattle.jp2_plane.specs.Plane.{plane, column, entryFor}
 
 -- the lesser of two is at most the second, and is the first where that is at most the second
 pub least-most : {r : ℕ} (m n : ℕ) → r ≡ least m n → r ≤ n

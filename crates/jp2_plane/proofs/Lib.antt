@@ -1,4 +1,3 @@
-pub mod Placing
 pub mod Amiss
 pub mod Entries
 pub mod Columns

@@ -1,14 +1,20 @@
 -- Samples that are looked up one after the other, and four a turn.
 -- Assumes nothing.
-use Prim.Native.Nat.{ℕ, _+_, _≤_, _<_}
+use Prim.Native.Nat.{ℕ, zero, suc, _+_, _≤_, _<_}
 use native.Mathlib.Omega.{arith}
 use mathlib.Core.Path.{_≡_, refl, sym, ap, _∙_}
-use mathlib.Core.List.{List, map}
+use mathlib.Core.List.{List, [], _∷_, map}
 use lib.IntN.{ℤ, pos}
 use lib.ListN.{length, take, drop, getD, set, length-drop, length-map, List·getD-map}
-use lib.Seq.{getD-drop, length-take-le}
-use Rattle.jp2_plane.specs.Plane.{plane, placed, entryFor}
-use Rattle.jp2_plane.proofs.Placing.{Placing, placing-more, placing-from, placing-all, take-map}
+use lib.Seq.{getD-drop}
+use Rattle.jp2_cio.specs.Number.{placed}
+use Rattle.jp2_plane.specs.Plane.{plane, entryFor}
+use Rattle.jp2_cio.proofs.Placing.{Placing, placing-more, placing-from, placing-all}
+
+take-map : {A B : Type 0} (f : A → B) (n : ℕ) (l : List A) → take n (map f l) ≡ map f (take n l)
+take-map f zero l = refl
+take-map f (suc n) [] = refl
+take-map f (suc n) (x ∷ l) = ap (λ (r : List _). f x ∷ r) (take-map f n l)
 
 -- samples of src from a place on, looked up and placed in d from at on
 module _ (entries : List ℤ) (last : ℕ) (src : List ℤ) (from : ℕ) (d : List ℤ) (at : ℕ) where

@@ -4,6 +4,7 @@ use mathlib.Core.Bool.{Bool, true, false}
 use mathlib.Core.List.{List, [], _∷_, _++_}
 use lib.IntN.{ℤ, pos}
 use lib.ListN.{length, take, drop, getD}
+use Rattle.jp2_cio.specs.Number.{placed}
 use Rattle.jp2_cio.specs.Table.{Test, _=?_, _<?_, _or_, otherwise, _⇒_∣_, table}
 use Rattle.jp2_record.specs.declared.Palette.{Palette}
 use Rattle.jp2_palette.specs.Pclr.{Cji, rowSize}
@@ -12,10 +13,6 @@ use Rattle.jp2_picture.specs.Samples.{held, displayed}
 -- the n samples from a place on
 abbrev pub plane : List ℤ → ℕ → ℕ → List ℤ
 plane s from n = take n (drop from s)
-
--- d with others from a place on, and the rest as it was
-unfoldable pub placed : {A : Type 0} → List A → ℕ → List A → List A
-placed d at xs = take at d ++ xs ++ drop (at + length xs) d
 
 -- n samples from a place of src on are not there, or have no room at their place of d
 abbrev pub outside : List ℤ → ℕ → ℕ → List ℤ → ℕ → Test

@@ -6,7 +6,8 @@ ghost use lib.IntN.{pos};
 ghost use lib.ListN.{length, getD, set};
 ghost use Rattle.jp2_cio.specs.Table.{_=?_, _<?_, _or_, _and_};
 ghost use Rattle.jp2_picture.specs.Samples.{floored, held, displayed, lookup, valueFor};
-ghost use Rattle.jp2_plane.specs.Plane.{plane, placed, outside, noColumn, done, put, column, entryFor};
+ghost use Rattle.jp2_cio.specs.Number.{placed};
+ghost use Rattle.jp2_plane.specs.Plane.{plane, outside, noColumn, done, put, column, entryFor};
 use jp2_record::Palette;
 
 // An entry of a palette as a sample.

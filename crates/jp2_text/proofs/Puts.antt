@@ -12,7 +12,7 @@ use lib.ListN.{length, take, drop, set, length-append, length-take}
 use lib.Seq.{take-all, take-append-le, take-append-add, take-nil, set-split}
 use Rattle.jp2_cio.specs.Number.{placed}
 use Rattle.jp2_cio.proofs.Rows.{either}
-use Rattle.jp2_cio.proofs.Bytes.{placed-none, length-placed, placed-then}
+use Rattle.jp2_cio.proofs.Placing.{placed-none, length-placed, placed-then}
 use Rattle.jp2_text.specs.Text.{put, after}
 
 -- what a function promises that is given d and a place, and leaves e and answers k

@@ -1,56 +1,17 @@
--- Pieces that are put one after the other to a place of a list.
+-- Boxes that are put one after the other to a place of a list: a field of a number, a header, what it announces.
 -- Assumes nothing.
 use Prim.Native.Nat.{ℕ, _+_, _≤_}
-use native.Mathlib.Omega.{arith}
-use mathlib.Core.Path.{_≡_, refl, sym, ap, ap₂, _∙_}
-use mathlib.Core.List.{List, [], _++_, append-assoc}
+use mathlib.Core.Path.{_≡_, ap}
+use mathlib.Core.List.{List, _++_, append-assoc}
 use lib.ListN.{length, length-append}
-use Rattle.jp2_cio.specs.Number.{bytes, placed}
-use Rattle.jp2_cio.proofs.Bytes.{length-bytes, placed-none, length-placed, placed-then}
+use Rattle.jp2_cio.specs.Number.{bytes}
+use Rattle.jp2_cio.proofs.Bytes.{length-bytes}
+use Rattle.jp2_cio.proofs.Pieces.{Put, Puts, piece}
 use Rattle.jp2_written.specs.Box.{boxHeader, box}
 
--- e is d with xs, which are m bytes, from a place on; k is the place after them
-pub record Put (d : List ℕ) (at : ℕ) (xs : List ℕ) (m : ℕ) (e : List ℕ) (k : ℕ) : Type 0 where
-  pub long : length xs ≡ m
-  pub is : e ≡ placed d at xs
-  pub end : k ≡ at + m
-
--- what a function that puts n bytes promises
-abbrev pub Puts : List ℕ → ℕ → List ℕ → ℕ → List ℕ → ℕ → Type 0
-Puts d at ys n e k = (k ≡ at + n) × (e ≡ placed d at ys)
-
-module _ (d : List ℕ) (at : ℕ) where
-  -- the first piece, and one more
-  pub first : (ys : List ℕ) (n : ℕ) {e : List ℕ} {k : ℕ} → length ys ≡ n → Puts d at ys n e k → Put d at ys n e k
-  first ys n l p = record { long = l; is = p .1; end = p .0 }
-
-  pub piece : (xs : List ℕ) (m : ℕ) {e : List ℕ} {k : ℕ} → Put d at xs m e k → (ys : List ℕ) (n : ℕ) {f : List ℕ} {r : ℕ} → length ys ≡ n → at + (m + n) ≤ length d → Puts e k ys n f r → Put d at (xs ++ ys) (m + n) f r
-  piece xs m {e} {k} q ys n l h p =
-      let a = q .long in
-      let b = q .end in
-      record {
-        long = length-append xs ys ∙ ap₂ _+_ a l;
-        is = p .1 ∙ ap₂ (λ x y. placed x y ys) (q .is) (b ∙ ap (λ y. at + y) (omega arith)) ∙ placed-then d at xs ys (omega arith);
-        end = let c = p .0 in omega arith;
-      }
-
-  pub field : (xs : List ℕ) (m : ℕ) {e : List ℕ} {k : ℕ} → Put d at xs m e k → (n v : ℕ) {f : List ℕ} {r : ℕ} → at + (m + n) ≤ length d → Puts e k (bytes n v) n f r → Put d at (xs ++ bytes n v) (m + n) f r
-  field xs m q n v h p = piece xs m q (bytes n v) n (length-bytes n v) h p
-
-  -- all of them, under another name
-  pub whole : (xs ys : List ℕ) (m : ℕ) {e : List ℕ} {k : ℕ} → Put d at xs m e k → xs ≡ ys → Puts d at ys m e k
-  whole xs ys m q e = (q .end, q .is ∙ ap (placed d at) e)
-
--- nothing yet; the same under another name; and the length stays
-module _ (d : List ℕ) (at : ℕ) where
-  pub none : Put d at [] 0 d at
-  none = record { long = refl; is = sym (placed-none d at); end = omega arith }
-
-  pub same : {xs ys : List ℕ} {m n : ℕ} {e : List ℕ} {k : ℕ} → xs ≡ ys → m ≡ n → Put d at xs m e k → Put d at ys n e k
-  same p q r = rw (p, q) at r
-
-  pub put-length : {xs : List ℕ} {m : ℕ} {e : List ℕ} {k : ℕ} → Put d at xs m e k → at + m ≤ length d → length e ≡ length d
-  put-length {xs} q h = ap length (q .is) ∙ length-placed d at xs (let l = q .long in omega arith)
+-- one more piece, a number
+pub field : (d : List ℕ) (at : ℕ) (xs : List ℕ) (m : ℕ) {e : List ℕ} {k : ℕ} → Put d at xs m e k → (n v : ℕ) {f : List ℕ} {r : ℕ} → at + (m + n) ≤ length d → Puts e k (bytes n v) n f r → Put d at (xs ++ bytes n v) (m + n) f r
+field d at xs m q n v h p = piece d at xs m q (bytes n v) n (length-bytes n v) h p
 
 -- a header and the content that it announces
 pub box-is : (type : ℕ) {n : ℕ} (content : List ℕ) → n ≡ length content → boxHeader type n ++ content ≡ box type content

@@ -15,7 +15,7 @@ pub fn say(shape: &[u8], numbers: &[usize]) {
 // How many bytes s has, and each of them.
 pub fn bytes(s: &[u8]) {
     say(
-        jp2_text::line(b"# bytes\n# byte\n", (s.len() == 1) as usize),
+        jp2_text::line(b"# bytes\n# byte\n", b'\n', (s.len() == 1) as usize),
         &[s.len()],
     );
     let mut i = 0;

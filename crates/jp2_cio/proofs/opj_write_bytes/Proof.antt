@@ -1,12 +1,13 @@
 -- `jp2_cio::opj_write_bytes` meets its contract.
 -- Assumes nothing.
-use mathlib.Core.Path.{_≡_, refl, sym, ap, _∙_}
+use mathlib.Core.Path.{_≡_, refl, sym, _∙_}
 use Prim.Native.Nat.{_≤_}
 use native.Mathlib.Omega.{arith}
 use lib.ListN.{length, length-set}
 use Rattle.jp2_cio.specs.Number.{bytes, placed, fits, written}
 use Rattle.jp2_cio.proofs.Rows.{row}
-use Rattle.jp2_cio.proofs.Bytes.{length-bytes, placed-none, placed-low}
+use Rattle.jp2_cio.proofs.Placing.{placed-none}
+use Rattle.jp2_cio.proofs.Bytes.{placed-low}
 use Rattle.jp2_cio.proofs.opj_write_bytes.Statement.{statement}
 use Rattle.jp2_cio.proofs.opj_write_bytes.Tie as tie
 

@@ -1,14 +1,12 @@
 -- `jp2_finish::pack_channel` meets its contract.
 -- Assumes nothing.
-use Prim.Native.Nat.{ℕ, _+_, _*_}
-use native.Mathlib.Omega.{arith}
+use Prim.Native.Nat.{_+_, _*_}
 use borrow.Author.Needs.{needs}
-use mathlib.Core.Path.{_≡_, ap, ap₂, _∙_}
-use lib.ListN.{length}
+use mathlib.Core.Path.{ap, ap₂, _∙_}
 use Rattle.jp2_picture.specs.Image.{size}
-use Rattle.jp2_plane.specs.Plane.{placed}
+use Rattle.jp2_cio.specs.Number.{placed}
 use Rattle.jp2_comps.specs.Alone.{listed}
-use Rattle.jp2_finish.specs.Parts.{recordAt, samplesAt, Packable}
+use Rattle.jp2_finish.specs.Parts.{recordAt, samplesAt}
 use Rattle.jp2_finish.proofs.pack_channel.Statement.{statement}
 use Rattle.jp2_finish.proofs.pack_channel.Tie as tie
 

@@ -1,15 +1,15 @@
 -- `jp2_finish::pack_record` meets its contract.
 -- Assumes nothing.
-use Prim.Native.Nat.{ℕ, _+_, _*_, _-_, _%_, _≤_, _<_}
+use Prim.Native.Nat.{ℕ, _*_, _-_, _%_, _≤_, _<_}
 use native.Mathlib.Omega.{arith}
 use mathlib.Core.Path.{_≡_, sym, ap, _∙_}
 use mathlib.Core.List.{List}
-use lib.ListN.{length, getD, take}
+use lib.ListN.{length, getD}
 use lib.Seq.{take-all}
 use Rattle.jp2_record.specs.declared.Palette.{Palette}
 use Rattle.jp2_order.proofs.Flats.{flat-length, flat-number}
-use Rattle.jp2_plane.specs.Plane.{placed}
-use Rattle.jp2_plane.proofs.Placing.{Placing, placing-none, placing-more, placing-all}
+use Rattle.jp2_cio.specs.Number.{placed}
+use Rattle.jp2_cio.proofs.Placing.{Placing, placing-none, placing-more, placing-all}
 use Rattle.jp2_finish.specs.Parts.{expandedAt, recordAt}
 use Rattle.jp2_finish.proofs.pack_record.Statement.{statement}
 use Rattle.jp2_finish.proofs.pack_record.Tie as tie

@@ -1,15 +1,9 @@
 -- `jp2_finish::pack_samples` meets its contract.
 -- Assumes nothing.
-use Prim.Native.Nat.{ℕ, _+_}
+use Prim.Native.Nat.{_+_}
 use native.Mathlib.Omega.{arith}
 use borrow.Author.Needs.{needs}
-use mathlib.Core.Path.{_≡_, ap, _∙_}
-use mathlib.Core.Bool.{false}
-use mathlib.Core.List.{List, map}
-use lib.IntN.{ℤ}
-use Rattle.jp2_cio.proofs.Rows.{Says}
-use Rattle.jp2_picture.specs.Samples.{valueFor}
-use Rattle.jp2_plane.specs.Plane.{plane, placed}
+use mathlib.Core.Path.{ap}
 use Rattle.jp2_comps.proofs.Planes.{size-none}
 use Rattle.jp2_finish.proofs.Packing.{placed-where, placed-blank}
 use Rattle.jp2_finish.proofs.pack_samples.Statement.{statement}

@@ -1,24 +1,22 @@
 -- `jp2_numbers::put` meets its contract.
 -- Assumes nothing.
 use native.Mathlib.Omega.{arith}
-use Prim.Native.Nat.{_+_, _-_, _≤_}
-use mathlib.Core.Path.{_≡_, refl, _∙_}
-use native.Mathlib.Numerals.{add-one}
-use lib.ListN.{length, length-set}
-use lib.Seq.{paste, paste-suc, paste-zero, take-all}
+use Prim.Native.Nat.{_-_, _≤_}
+use mathlib.Core.Path.{refl}
+use lib.ListN.{length}
 use borrow.Author.Needs.{needs}
-use Rattle.jp2_cio.specs.Number.{placed}
+use Rattle.jp2_cio.proofs.Placing.{Placing, placing-none, placing-more, placing-whole}
 use Rattle.jp2_numbers.proofs.put.Statement.{statement}
 use Rattle.jp2_numbers.proofs.put.Tie as tie
 
 abbrev Inv-loop : tie.InvT-loop
-Inv-loop d₀ at xs n k₀ d k = (k ≤ length xs) × (d ≡ paste d₀ at xs k) × (length d ≡ length d₀)
+Inv-loop d₀ at xs n k₀ d k = (k ≤ length xs) × Placing d₀ at xs d k
 
 abbrev μ-loop : tie.MeasureT-loop
 μ-loop d₀ at xs n k₀ d k = length xs - k
 
 loop-holds : tie.Need-loop-holds Inv-loop μ-loop
-loop-holds c = let a = c .args in (omega arith, paste-zero (a .d .now) (a .at) (a .xs .now), refl)
+loop-holds c = let a = c .args in (omega arith, placing-none (a .d .now) (a .at) (a .xs .now))
 
 shared-slice-read-d : tie.Need-shared-slice-read-d Inv-loop μ-loop
 shared-slice-read-d c = omega arith
@@ -45,18 +43,16 @@ loop-again : tie.Need-loop-again Inv-loop μ-loop
 loop-again c =
     let a = c .before .before .before .args in
     let l = c .before .before .loop in
-    (omega arith, rw (l .inv .1, add-one) (paste-suc (a .d .now) (a .at) (a .xs .now) (l .k) 0 (omega arith) (omega arith)), length-set (l .d) (a .at + l .k) _ ∙ l .inv .2)
+    (omega arith, placing-more (a .d .now) (a .at) (a .xs .now) (l .d) (l .k) 0 _ (l .inv .1) (omega arith) (omega arith) refl)
 
 same-length : tie.Need-same-length Inv-loop μ-loop
-same-length c = c .before .loop .inv .2
+same-length c = c .before .loop .inv .1 .long
 
 returns : tie.Need-returns Inv-loop μ-loop
-unfolding placed
 returns c =
     let a = c .before .before .args in
     let l = c .before .loop in
-    let e : l .k ≡ length (a .xs .now) = omega arith in
-    l .inv .1 ∙ rw (e, take-all (length (a .xs .now)) (a .xs .now) (omega arith))
+    placing-whole (a .d .now) (a .at) (a .xs .now) (l .d) (l .k) (l .inv .1) (omega arith)
 
 pub put-spec : {M : Type 1} → statement M
 put-spec =

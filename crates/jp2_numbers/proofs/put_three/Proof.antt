@@ -1,9 +1,11 @@
 -- `jp2_numbers::put_three` meets its contract.
 -- Assumes nothing.
 use native.Mathlib.Omega.{arith}
+use Prim.Native.Nat.{_+_}
 use mathlib.Core.Path.{refl}
-use borrow.Author.Needs.{needs}
-use Rattle.jp2_numbers.proofs.Giving.{three}
+use mathlib.Core.List.{_++_}
+use lib.ListN.{length}
+use Rattle.jp2_cio.proofs.Pieces.{first, piece}
 use Rattle.jp2_numbers.proofs.put_three.Statement.{statement}
 use Rattle.jp2_numbers.proofs.put_three.Tie as tie
 
@@ -29,7 +31,13 @@ returns : tie.Need-returns
 returns c =
     let b = c .before .before .before .before .before .before .before .before .before .before .before .before .before .before .before .before in
     let a = b .args in
-    three (a .d .now) (a .at) (a .xs .now) (a .ys .now) (a .zs .now) (b .pre) refl refl (c .before .before .before .before .before .before .before .before .before .before .put .ensures) (c .before .before .before .before .before .before .put2 .ensures) (c .before .before .put3 .ensures)
+    let d = a .d .now in
+    let xs = a .xs .now in
+    let ys = a .ys .now in
+    let h = b .pre in
+    let p = first d (a .at) xs (length xs) refl (refl, c .before .before .before .before .before .before .before .before .before .before .put .ensures) in
+    let q = piece d (a .at) xs (length xs) p ys (length ys) refl (omega (arith, h)) (refl, c .before .before .before .before .before .before .put2 .ensures) in
+    (piece d (a .at) (xs ++ ys) (length xs + length ys) q (a .zs .now) (length (a .zs .now)) refl h (refl, c .before .before .put3 .ensures)) .is
 
 pub put-three-spec : {M : Type 1} → statement M
 put-three-spec =

@@ -8,7 +8,7 @@ use lib.ListN.{drop, length-drop}
 use lib.Seq.{getD-drop}
 use mir.Facts.{toZ-ofZ}
 use borrow.Author.Needs.{sfits-of}
-use Rattle.jp2_plane.proofs.Placing.{Placing, placing-none, placing-more, placing-all}
+use Rattle.jp2_cio.proofs.Placing.{Placing, placing-none, placing-more, placing-all}
 use Rattle.jp2_plane.proofs.copy_inside.Statement.{statement}
 use Rattle.jp2_plane.proofs.copy_inside.Tie as tie
 

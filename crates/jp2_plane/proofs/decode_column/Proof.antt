@@ -14,8 +14,9 @@ use Rattle.jp2_record.specs.Record.{palette}
 use Rattle.jp2_palette.specs.Pclr.{entryBytes}
 use Rattle.jp2_palette.proofs.Entries.{rows-most}
 use Rattle.jp2_picture.specs.Samples.{displayed}
-use Rattle.jp2_plane.specs.Plane.{placed, column}
-use Rattle.jp2_plane.proofs.Placing.{Placing, placing-none, placing-more, placing-all}
+use Rattle.jp2_cio.specs.Number.{placed}
+use Rattle.jp2_plane.specs.Plane.{column}
+use Rattle.jp2_cio.proofs.Placing.{Placing, placing-none, placing-more, placing-all}
 use Rattle.jp2_plane.proofs.Columns.{rows-more, row-small, entry-read, length-column, column-at}
 use Rattle.jp2_plane.proofs.decode_column.Statement.{statement}
 use Rattle.jp2_plane.proofs.decode_column.Tie as tie

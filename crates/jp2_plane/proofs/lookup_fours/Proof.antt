@@ -1,12 +1,12 @@
 -- `jp2_plane::lookup_fours` meets its contract.
 -- Assumes nothing.
 use native.Mathlib.Omega.{arith}
-use Prim.Native.Nat.{ℕ, _+_, _-_, _≤_}
+use Prim.Native.Nat.{_+_, _-_, _≤_}
 use mathlib.Core.Path.{_≡_, refl}
 use mathlib.Core.List.{map}
 use lib.ListN.{drop}
 use Rattle.jp2_plane.specs.Plane.{entryFor}
-use Rattle.jp2_plane.proofs.Placing.{Placing, placing-none}
+use Rattle.jp2_cio.proofs.Placing.{Placing, placing-none}
 use Rattle.jp2_plane.proofs.Lookups.{look-four, look-all}
 use Rattle.jp2_plane.proofs.lookup_fours.Statement.{statement}
 use Rattle.jp2_plane.proofs.lookup_fours.Tie as tie

@@ -7,7 +7,7 @@ use mathlib.Core.List.{List, map}
 use lib.IntN.{ℤ}
 use lib.ListN.{length, drop}
 use Rattle.jp2_plane.specs.Plane.{entryFor}
-use Rattle.jp2_plane.proofs.Placing.{Placing}
+use Rattle.jp2_cio.proofs.Placing.{Placing}
 use Rattle.jp2_plane.proofs.Lookups.{look-from, look-next, look-all}
 use Rattle.jp2_plane.proofs.lookup_inside.Statement.{statement}
 use Rattle.jp2_plane.proofs.lookup_inside.Tie as tie

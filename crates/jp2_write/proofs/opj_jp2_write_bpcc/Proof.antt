@@ -2,14 +2,15 @@
 -- Assumes nothing.
 use Prim.Native.Nat.{_+_}
 use native.Mathlib.Omega.{arith}
-use mathlib.Core.Path.{_≡_, refl, sym, ap, _∙_}
+use mathlib.Core.Path.{sym, ap, _∙_}
 use mathlib.Core.List.{_++_}
 use Rattle.jp2_cio.specs.Number.{placed}
-use Rattle.jp2_cio.proofs.Bytes.{placed-none}
+use Rattle.jp2_cio.proofs.Placing.{placed-none}
 use Rattle.jp2_written.proofs.Splitting.{length-header}
 use Rattle.jp2_written.specs.Box.{boxHeader}
 use Rattle.jp2_write.specs.Parts.{bpccOf, depthsOf}
-use Rattle.jp2_write.proofs.Pieces.{box-is, first, piece, whole}
+use Rattle.jp2_cio.proofs.Pieces.{first, piece, whole}
+use Rattle.jp2_write.proofs.Pieces.{box-is}
 use Rattle.jp2_write.proofs.Lengths.{depths-length, bpcc-none, bpcc-some, bpcc-empty, bpcc-full}
 use borrow.Author.Needs.{needs}
 use Rattle.jp2_write.proofs.opj_jp2_write_bpcc.Statement.{statement}

@@ -2,14 +2,15 @@
 -- Assumes nothing.
 use Prim.Native.Nat.{ℕ, _+_, _*_}
 use native.Mathlib.Omega.{arith}
-use mathlib.Core.Path.{_≡_, refl, sym, ap, _∙_}
+use mathlib.Core.Path.{_≡_, sym, ap, _∙_}
 use mathlib.Core.List.{List, _++_, append-assoc}
 use Rattle.jp2_cio.specs.Number.{bytes, placed}
-use Rattle.jp2_cio.proofs.Bytes.{placed-none}
+use Rattle.jp2_cio.proofs.Placing.{placed-none}
 use Rattle.jp2_written.proofs.Splitting.{length-header}
 use Rattle.jp2_written.specs.Box.{boxHeader}
 use Rattle.jp2_write.specs.Parts.{definitionsOf, cdefOf}
-use Rattle.jp2_write.proofs.Pieces.{box-is, first, field, piece, whole}
+use Rattle.jp2_cio.proofs.Pieces.{first, piece, whole}
+use Rattle.jp2_write.proofs.Pieces.{box-is, field}
 use Rattle.jp2_write.proofs.Lengths.{definitions-length, defined-length, cdef-none, cdef-some, cdef-empty, cdef-full}
 use borrow.Author.Needs.{needs}
 use Rattle.jp2_write.proofs.opj_jp2_write_cdef.Statement.{statement}

@@ -2,14 +2,15 @@
 -- Assumes nothing.
 use Prim.Native.Nat.{_+_, _-_}
 use native.Mathlib.Omega.{arith}
-use mathlib.Core.Path.{_≡_, refl, sym, ap, _∙_}
+use mathlib.Core.Path.{refl, sym, ap, _∙_}
 use mathlib.Core.List.{_++_}
 use lib.ListN.{length}
 use Rattle.jp2_cio.specs.Number.{bytes}
 use Rattle.jp2_written.proofs.Splitting.{length-header}
 use Rattle.jp2_written.specs.Box.{boxHeader}
 use Rattle.jp2_write.specs.Parts.{specificationOf, colrOf}
-use Rattle.jp2_write.proofs.Pieces.{regrouped, box-is, first, field, piece, whole}
+use Rattle.jp2_cio.proofs.Pieces.{first, piece, whole}
+use Rattle.jp2_write.proofs.Pieces.{regrouped, box-is, field}
 use Rattle.jp2_write.proofs.Lengths.{specification-length, content-length, colr-most}
 use borrow.Author.Needs.{needs}
 use Rattle.jp2_write.proofs.opj_jp2_write_colr.Statement.{statement}

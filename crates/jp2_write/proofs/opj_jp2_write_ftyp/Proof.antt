@@ -1,7 +1,6 @@
 -- `jp2_write::opj_jp2_write_ftyp` meets its contract.
 -- Assumes nothing.
 use native.Mathlib.Omega.{arith}
-use mathlib.Core.Path.{refl}
 use mathlib.Core.List.{_++_, append-assoc}
 use lib.ListN.{length-append}
 use Rattle.jp2_written.proofs.Splitting.{length-header}
@@ -9,7 +8,8 @@ use Rattle.jp2_written.specs.Box.{boxHeader, box}
 use Rattle.jp2_written.specs.FileType.{fileType}
 use Rattle.jp2_cio.specs.Number.{bytes}
 use Rattle.jp2_cio.proofs.Bytes.{length-bytes}
-use Rattle.jp2_write.proofs.Pieces.{first, field, whole}
+use Rattle.jp2_cio.proofs.Pieces.{first, whole}
+use Rattle.jp2_write.proofs.Pieces.{field}
 use borrow.Author.Needs.{needs}
 use Rattle.jp2_write.proofs.opj_jp2_write_ftyp.Statement.{statement}
 use Rattle.jp2_write.proofs.opj_jp2_write_ftyp.Tie as tie

@@ -2,13 +2,14 @@
 -- Assumes nothing.
 use Prim.Native.Nat.{_+_}
 use native.Mathlib.Omega.{arith}
-use mathlib.Core.Path.{_≡_, refl, sym, ap, _∙_}
+use mathlib.Core.Path.{sym, _∙_}
 use mathlib.Core.List.{_++_}
 use lib.ListN.{length}
 use Rattle.jp2_written.proofs.Splitting.{length-header}
 use Rattle.jp2_written.specs.Box.{boxHeader}
 use Rattle.jp2_write.specs.Parts.{ihdrOf, bpccOf, colrOf, cdefOf, jp2hOf, bpccLength, colrLength, cdefLength}
-use Rattle.jp2_write.proofs.Pieces.{regrouped, box-is, first, piece, whole}
+use Rattle.jp2_cio.proofs.Pieces.{first, piece, whole}
+use Rattle.jp2_write.proofs.Pieces.{regrouped, box-is}
 use Rattle.jp2_write.proofs.Lengths.{ihdr-length, bpcc-length, colr-length, cdef-length, jp2h-length}
 use borrow.Author.Needs.{needs}
 use Rattle.jp2_write.proofs.opj_jp2_write_jp2h.Statement.{statement}

@@ -1,23 +1,21 @@
 -- `jp2_write::put_bytes` meets its contract.
 -- Assumes nothing.
 use native.Mathlib.Omega.{arith}
-use Prim.Native.Nat.{_+_, _-_, _≤_}
-use mathlib.Core.Path.{_≡_, refl, _∙_}
-use native.Mathlib.Numerals.{add-one}
-use lib.ListN.{length, length-set}
-use lib.Seq.{paste, paste-suc, paste-zero, take-all}
-use Rattle.jp2_cio.specs.Number.{placed}
+use Prim.Native.Nat.{_-_, _≤_}
+use mathlib.Core.Path.{refl}
+use lib.ListN.{length}
+use Rattle.jp2_cio.proofs.Placing.{Placing, placing-none, placing-more, placing-whole}
 use Rattle.jp2_write.proofs.put_bytes.Statement.{statement}
 use Rattle.jp2_write.proofs.put_bytes.Tie as tie
 
 abbrev Inv-loop : tie.InvT-loop
-Inv-loop d₀ at src n k₀ d k = (k ≤ length src) × (d ≡ paste d₀ at src k) × (length d ≡ length d₀)
+Inv-loop d₀ at src n k₀ d k = (k ≤ length src) × Placing d₀ at src d k
 
 abbrev μ-loop : tie.MeasureT-loop
 μ-loop d₀ at src n k₀ d k = length src - k
 
 loop-holds : tie.Need-loop-holds Inv-loop μ-loop
-loop-holds c = let a = c .args in (omega arith, paste-zero (a .d .now) (a .at) (a .src .now), refl)
+loop-holds c = let a = c .args in (omega arith, placing-none (a .d .now) (a .at) (a .src .now))
 
 shared-slice-read-d : tie.Need-shared-slice-read-d Inv-loop μ-loop
 shared-slice-read-d c = omega arith
@@ -38,21 +36,19 @@ loop-again : tie.Need-loop-again Inv-loop μ-loop
 loop-again c =
     let a = c .before .before .before .args in
     let l = c .before .before .loop in
-    (omega arith, rw (l .inv .1, add-one) (paste-suc (a .d .now) (a .at) (a .src .now) (l .k) 0 (omega arith) (omega arith)), length-set (l .d) (a .at + l .k) _ ∙ l .inv .2)
+    (omega arith, placing-more (a .d .now) (a .at) (a .src .now) (l .d) (l .k) 0 _ (l .inv .1) (omega arith) (omega arith) refl)
 
 add-result : tie.Need-add-result Inv-loop μ-loop
 add-result c = omega arith
 
 same-length : tie.Need-same-length Inv-loop μ-loop
-same-length c = c .before .loop .inv .2
+same-length c = c .before .loop .inv .1 .long
 
 returns : tie.Need-returns Inv-loop μ-loop
-unfolding placed
 returns c =
     let a = c .before .before .args in
     let l = c .before .loop in
-    let e : l .k ≡ length (a .src .now) = omega arith in
-    (refl, l .inv .1 ∙ rw (e, take-all (length (a .src .now)) (a .src .now) (omega arith)))
+    (refl, placing-whole (a .d .now) (a .at) (a .src .now) (l .d) (l .k) (l .inv .1) (omega arith))
 
 pub put-bytes-spec : {M : Type 1} → statement M
 put-bytes-spec =

@@ -5,7 +5,8 @@ use mathlib.Core.Path.{refl}
 use mathlib.Core.List.{_++_}
 use Rattle.jp2_cio.specs.Number.{bytes}
 use Rattle.jp2_cio.proofs.Bytes.{length-bytes}
-use Rattle.jp2_write.proofs.Pieces.{first, field, whole}
+use Rattle.jp2_cio.proofs.Pieces.{first, whole}
+use Rattle.jp2_write.proofs.Pieces.{field}
 use borrow.Author.Needs.{needs}
 use Rattle.jp2_write.proofs.put_definition.Statement.{statement}
 use Rattle.jp2_write.proofs.put_definition.Tie as tie

@@ -1,16 +1,15 @@
 -- `jp2_write::put_definitions` meets its contract.
 -- Assumes nothing.
 use native.Mathlib.Omega.{arith}
-use Prim.Native.Nat.{ℕ, suc, _+_, _-_, _*_, _≤_}
-use mathlib.Core.Path.{_≡_, refl, sym, ap, _∙_}
+use Prim.Native.Nat.{ℕ, _+_, _-_, _*_, _≤_}
+use mathlib.Core.Path.{_≡_, refl, ap}
 use mathlib.Core.List.{List, _++_}
 use native.Mathlib.Numerals.{add-one}
-use lib.ListN.{length}
 use Rattle.jp2_written.specs.Box.{series}
 use Rattle.jp2_written.specs.Cdef as cdef
 use Rattle.jp2_write.specs.Parts.{definitionOf, definitionsOf}
 use Rattle.jp2_write.proofs.Lengths.{fields-length}
-use Rattle.jp2_write.proofs.Pieces.{Put, none, same, put-length, piece, whole}
+use Rattle.jp2_cio.proofs.Pieces.{Put, none, same, put-length, piece, whole}
 use Rattle.jp2_write.proofs.put_definitions.Statement.{statement}
 use Rattle.jp2_write.proofs.put_definitions.Tie as tie
 

@@ -1,17 +1,17 @@
 -- `jp2_write::put_depths` meets its contract.
 -- Assumes nothing.
 use native.Mathlib.Omega.{arith}
-use Prim.Native.Nat.{ℕ, suc, _+_, _-_, _≤_}
-use mathlib.Core.Path.{_≡_, refl, sym, ap, _∙_}
+use Prim.Native.Nat.{ℕ, _+_, _-_, _≤_}
+use mathlib.Core.Path.{_≡_, refl, ap}
 use mathlib.Core.List.{List, _++_}
 use native.Mathlib.Numerals.{add-one}
-use lib.ListN.{length}
 use Rattle.jp2_cio.specs.Number.{bytes}
 use Rattle.jp2_written.specs.Setup.{BPCi}
 use Rattle.jp2_written.specs.Box.{series}
 use Rattle.jp2_setup.specs.Parts.{listed}
 use Rattle.jp2_write.specs.Parts.{depthsOf}
-use Rattle.jp2_write.proofs.Pieces.{Put, none, same, put-length, field, whole}
+use Rattle.jp2_cio.proofs.Pieces.{Put, none, same, put-length, whole}
+use Rattle.jp2_write.proofs.Pieces.{field}
 use Rattle.jp2_write.proofs.put_depths.Statement.{statement}
 use Rattle.jp2_write.proofs.put_depths.Tie as tie
 

@@ -2,7 +2,7 @@
 -- Assumes nothing.
 use Prim.Native.Nat.{_+_}
 use native.Mathlib.Omega.{arith}
-use mathlib.Core.Path.{_≡_, refl, sym, ap, _∙_}
+use mathlib.Core.Path.{refl, ap, _∙_}
 use mathlib.Core.List.{_++_}
 use lib.ListN.{length}
 use Rattle.jp2_written.proofs.Splitting.{length-header, length-box}
@@ -10,7 +10,7 @@ use Rattle.jp2_written.specs.Box.{boxHeader}
 use Rattle.jp2_written.specs.Signature.{signature}
 use Rattle.jp2_written.specs.FileType.{fileType}
 use Rattle.jp2_write.specs.Parts.{ihdrOf, bpccOf, colrOf, cdefOf, jp2hOf, frontOf, jp2hLength}
-use Rattle.jp2_write.proofs.Pieces.{first, piece, whole}
+use Rattle.jp2_cio.proofs.Pieces.{first, piece, whole}
 use Rattle.jp2_write.proofs.Lengths.{signature-length, fileType-length, jp2h-length}
 use borrow.Author.Needs.{needs}
 use Rattle.jp2_write.proofs.write_front.Statement.{statement}

@@ -10,7 +10,8 @@ use mathlib.Core.Path.{refl, sym, ap, _∙_}
 use Rattle.jp2_cio.specs.Number.{fits}
 use Rattle.jp2_box.specs.Box.{fitsHeader, withHeader}
 use Rattle.jp2_cio.proofs.Rows.{row}
-use Rattle.jp2_cio.proofs.Bytes.{length-bytes, length-placed, written-fits, written-next}
+use Rattle.jp2_cio.proofs.Placing.{length-placed}
+use Rattle.jp2_cio.proofs.Bytes.{written-fits, written-next}
 use borrow.Author.Needs.{needs}
 use Rattle.jp2_box.proofs.Jp2BoxHeader.write.Statement.{statement}
 use Rattle.jp2_box.proofs.Jp2BoxHeader.write.Tie as tie
