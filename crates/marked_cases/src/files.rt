@@ -20,37 +20,31 @@ pub fn extended(d: &mut [u8], at: u32, ty: u32, length: u32) {
 
 // The signature, and ftyp with one entry in its list.
 pub fn start(d: &mut [u8]) {
-    head(d, 0, 12, 0x6a502020);
-    jp2_cio::opj_write_bytes(d, 8, 0x0d0a870a, 4);
-    head(d, 12, 20, 0x66747970);
-    jp2_cio::opj_write_bytes(d, 20, 0x6a703220, 4);
-    jp2_cio::opj_write_bytes(d, 28, 0x6a703220, 4);
+    jp2_text::text(
+        d,
+        0,
+        b"\0\0\0\x0cjP  \x0d\x0a\x87\x0a\0\0\0\x14ftypjp2 \0\0\0\0jp2 ",
+    );
 }
 
 // All but the content of jp2h, a box of a length, which begins at 40. Gives the file's length.
 pub fn picture(d: &mut [u8], length: u32) -> usize {
     start(d);
     head(d, 32, length, 0x6a703268);
-    jp2_cio::opj_write_bytes(d, length as usize + 32, 8, 4);
-    jp2_cio::opj_write_bytes(d, length as usize + 36, JP2C, 4);
+    jp2_text::text(d, length as usize + 32, b"\0\0\0\x08jp2c");
     length as usize + 40
 }
 
 // Height 3, width 2, the count, 8 bits.
 pub fn ihdr(d: &mut [u8], at: u32, length: u32, count: u32) {
     head(d, at, length, IHDR);
-    jp2_cio::opj_write_bytes(d, at as usize + 8, 3, 4);
-    jp2_cio::opj_write_bytes(d, at as usize + 12, 2, 4);
+    jp2_text::text(d, at as usize + 8, b"\0\0\0\x03\0\0\0\x02\0\0\x07\x07");
     jp2_cio::opj_write_bytes(d, at as usize + 16, count, 2);
-    jp2_cio::opj_write_bytes(d, at as usize + 18, 7, 1);
-    jp2_cio::opj_write_bytes(d, at as usize + 19, 7, 1);
 }
 
 // Method 1, and the colour space grey.
 pub fn colr(d: &mut [u8], at: u32) {
-    head(d, at, 15, 0x636f6c72);
-    jp2_cio::opj_write_bytes(d, at as usize + 8, 1, 1);
-    jp2_cio::opj_write_bytes(d, at as usize + 11, 17, 4);
+    jp2_text::text(d, at as usize, b"\0\0\0\x0fcolr\x01\0\0\0\0\0\x11");
 }
 
 // One column of a width byte, after an ihdr; all entries are 0.

@@ -2,46 +2,41 @@
 use jp2_file::FileAnswer;
 use libc::STDOUT_FILENO;
 
-fn text(s: &[u8]) {
-    io::write_all(STDOUT_FILENO, s);
-}
-
-fn decimal(n: u32) {
-    io::print_decimal(STDOUT_FILENO, n as u64);
+// A shape in which each # stands for the next of the numbers.
+fn say(shape: &[u8], numbers: &[usize]) {
+    let mut d = io::buffer();
+    let n = jp2_text::fill(&mut d, 0, shape, numbers);
+    io::write_all(STDOUT_FILENO, jp2_cio::part(&d, 0, n));
 }
 
 pub fn came(case: &[u8], file: &[u8]) {
-    text(case);
-    text(b" = ");
+    io::write_all(STDOUT_FILENO, case);
     let r = jp2_file::read_file(file);
     let a = r.answer;
-    answer(a);
+    answer(b" = ", a);
     lent(file);
-    text(b"\n");
 }
 
 // The same over a lent record, and the width that stands in it afterwards.
 fn lent(file: &[u8]) {
-    text(b"; lent ");
     let r = jp2_lend::lend_header_procedure(file, jp2_record::opj_jp2_create());
     let a = r.answer;
-    answer(a);
-    text(b", width ");
-    decimal(r.jp2.image.w);
+    answer(b"; lent ", a);
+    say(b", width #\n", &[wide(r.jp2.image.w)]);
 }
 
-fn answer(a: FileAnswer) {
+fn answer(before: &[u8], a: FileAnswer) {
+    io::write_all(STDOUT_FILENO, before);
     match a {
-        FileAnswer::Codestream(offset) => {
-            text(b"codestream at ");
-            decimal(offset);
-        }
-        FileAnswer::Ended => text(b"ended"),
-        FileAnswer::Refused(number, place) => {
-            text(b"refused ");
-            decimal(number);
-            text(b" at ");
-            decimal(place);
-        }
+        FileAnswer::Codestream(offset) => say(b"codestream at #", &[offset as usize]),
+        FileAnswer::Ended => say(b"ended", &[]),
+        FileAnswer::Refused(number, place) => say(
+            b"refused # at #",
+            &[number as usize, place as usize],
+        ),
     }
+}
+
+fn wide(n: u32) -> usize {
+    n as usize
 }

@@ -5,11 +5,32 @@ use jp2_record::Span;
 use jp2_reorder::Comp;
 
 fn main() {
-    three();
-    four();
-    mark_first();
-    swap_first();
-    five();
+    run(
+        b"A,B,C: (0,0,3),(1,0,2),(2,0,1)",
+        b"\0\0\0\0\0\x03\0\x01\0\0\0\x02\0\x02\0\0\0\x01",
+        3,
+        3,
+    );
+    run(
+        b"A,B,C,D: (2,0,1),(0,0,2),(1,1,0),(3,1,0)",
+        b"\0\x02\0\0\0\x01\0\0\0\0\0\x02\0\x01\0\x01\0\0\0\x03\0\x01\0\0",
+        4,
+        4,
+    );
+    run(
+        b"A,B: (0,1,0),(1,0,1)",
+        b"\0\0\0\x01\0\0\0\x01\0\0\0\x01",
+        2,
+        2,
+    );
+    run(
+        b"A,B: (1,0,1),(0,1,0)",
+        b"\0\x01\0\0\0\x01\0\0\0\x01\0\0",
+        2,
+        2,
+    );
+    // more planes than there are records
+    run(b"5 planes of 4 records: (0,0,0)", b"\0\0\0\0\0\0", 1, 5);
 }
 
 // A plane, by its name in `data`, and of no mark.
@@ -43,48 +64,4 @@ fn run(case: &[u8], f: &[u8], count: usize, n: u32) {
         count: count,
     };
     say::came(case, jp2_relend::apply_four(f, list, cs, n));
-}
-
-fn three() {
-    let mut f = [0u8; 18];
-    jp2_cio::opj_write_bytes(&mut f, 4, 3, 2);
-    jp2_cio::opj_write_bytes(&mut f, 6, 1, 2);
-    jp2_cio::opj_write_bytes(&mut f, 10, 2, 2);
-    jp2_cio::opj_write_bytes(&mut f, 12, 2, 2);
-    jp2_cio::opj_write_bytes(&mut f, 16, 1, 2);
-    run(b"A,B,C: (0,0,3),(1,0,2),(2,0,1)", &f, 3, 3);
-}
-
-fn four() {
-    let mut f = [0u8; 24];
-    jp2_cio::opj_write_bytes(&mut f, 0, 2, 2);
-    jp2_cio::opj_write_bytes(&mut f, 4, 1, 2);
-    jp2_cio::opj_write_bytes(&mut f, 10, 2, 2);
-    jp2_cio::opj_write_bytes(&mut f, 12, 1, 2);
-    jp2_cio::opj_write_bytes(&mut f, 14, 1, 2);
-    jp2_cio::opj_write_bytes(&mut f, 18, 3, 2);
-    jp2_cio::opj_write_bytes(&mut f, 20, 1, 2);
-    run(b"A,B,C,D: (2,0,1),(0,0,2),(1,1,0),(3,1,0)", &f, 4, 4);
-}
-
-fn mark_first() {
-    let mut f = [0u8; 12];
-    jp2_cio::opj_write_bytes(&mut f, 2, 1, 2);
-    jp2_cio::opj_write_bytes(&mut f, 6, 1, 2);
-    jp2_cio::opj_write_bytes(&mut f, 10, 1, 2);
-    run(b"A,B: (0,1,0),(1,0,1)", &f, 2, 2);
-}
-
-fn swap_first() {
-    let mut f = [0u8; 12];
-    jp2_cio::opj_write_bytes(&mut f, 0, 1, 2);
-    jp2_cio::opj_write_bytes(&mut f, 4, 1, 2);
-    jp2_cio::opj_write_bytes(&mut f, 8, 1, 2);
-    run(b"A,B: (1,0,1),(0,1,0)", &f, 2, 2);
-}
-
-// More planes than there are records.
-fn five() {
-    let f = [0u8; 6];
-    run(b"5 planes of 4 records: (0,0,0)", &f, 1, 5);
 }

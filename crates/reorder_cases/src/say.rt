@@ -4,17 +4,15 @@ use jp2_relend::Four;
 use jp2_reorder::Comp;
 use libc::STDOUT_FILENO;
 
-fn text(s: &[u8]) {
-    io::write_all(STDOUT_FILENO, s);
-}
-
-fn number(name: &[u8], n: u32) {
-    text(name);
-    io::print_decimal(STDOUT_FILENO, n as u64);
+// A shape in which each # stands for the next of the numbers.
+fn say(shape: &[u8], numbers: &[usize]) {
+    let mut d = io::buffer();
+    let n = jp2_text::fill(&mut d, 0, shape, numbers);
+    io::write_all(STDOUT_FILENO, jp2_cio::part(&d, 0, n));
 }
 
 pub fn came(case: &[u8], r: Four) {
-    text(case);
+    io::write_all(STDOUT_FILENO, case);
     let a = r.answer;
     answer(a);
     let cs = r.comps;
@@ -22,37 +20,29 @@ pub fn came(case: &[u8], r: Four) {
     let q = cs[1];
     let s = cs[2];
     let t = cs[3];
-    text(b"; planes");
     plane(p);
     plane(q);
     plane(s);
     plane(t);
-    text(b"\n");
-}
-
-// The planes' names are 0 to 3 in `data`, for A to D.
-fn plane(c: Comp) {
-    if c.data == 0 {
-        text(b" A");
-    }
-    if c.data == 1 {
-        text(b" B");
-    }
-    if c.data == 2 {
-        text(b" C");
-    }
-    if c.data == 3 {
-        text(b" D");
-    }
-    number(b" marked ", c.alpha);
+    io::write_all(STDOUT_FILENO, b"\n");
 }
 
 fn answer(a: Answer) {
     match a {
-        Answer::Done => text(b" = done"),
-        Answer::Refused(n, place) => {
-            number(b" = refused ", n);
-            number(b" at ", place);
-        }
+        Answer::Done => say(b" = done; planes", &[]),
+        Answer::Refused(n, place) => say(
+            b" = refused # at #; planes",
+            &[n as usize, place as usize],
+        ),
     }
+}
+
+// The planes' names are 0 to 3 in `data`, for A to D.
+fn plane(c: Comp) {
+    let shapes = b" A marked #\n B marked #\n C marked #\n D marked #\n";
+    say(jp2_text::line(shapes, wide(c.data)), &[wide(c.alpha)]);
+}
+
+fn wide(n: u32) -> usize {
+    n as usize
 }
