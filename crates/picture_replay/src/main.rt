@@ -126,7 +126,7 @@ fn outcome(
     let mut answer = [9u64; 4];
     let flag = list::flag(picture);
     put::pattern(records, planes);
-    finish(
+    jp2_export::cuzhantir_picture(
         list::file(picture),
         list::number(flag, 0),
         comps,
@@ -137,20 +137,6 @@ fn outcome(
         &mut answer,
     );
     compare::outcome(i, picture, &answer, records, planes)
-}
-
-// What the export promises is left aside: the list decides.
-fn finish(
-    file: &[u8],
-    ignore: u32,
-    comps: &[u32],
-    count: u32,
-    samples: &[i32],
-    records: &mut [u32],
-    planes: &mut [i32],
-    answer: &mut [u64],
-) {
-    jp2_export::cuzhantir_picture(file, ignore, comps, count, samples, records, planes, answer);
 }
 
 fn count(tally: &mut [usize], k: usize) {
