@@ -3,9 +3,11 @@ use crate::list;
 use crate::put;
 use crate::say;
 
-// The place in the tally of what picture i came to: 31 where it differs, else 0 or the number of the refusal.
-// A list that has ended differs: its numbers are 0, and no picture is finished of an empty file.
+// The place in the tally of what picture i came to: 31 where it differs or the list has ended, else 0 or the number of the refusal.
 pub fn outcome(i: u32, picture: &[u8], answer: &[u64], records: &[u32], planes: &[i32]) -> usize {
+    if picture.len() == 0 {
+        return differs(b"case #: the list has ended\n", i, 0);
+    }
     let a = first_number(picture, answer);
     if a < 4 {
         return differs(b"case #: the answer differs at #\n", i, a);
