@@ -40,7 +40,10 @@ fn answer(a: Answer) {
 // The planes' names are 0 to 3 in `data`, for A to D.
 fn plane(c: Comp) {
     let shapes = b" A marked #\n B marked #\n C marked #\n D marked #\n";
-    say(jp2_text::line(shapes, wide(c.data)), &[wide(c.alpha)]);
+    say(
+        jp2_text::line(shapes, b'\n', wide(c.data)),
+        &[wide(c.alpha)],
+    );
 }
 
 fn wide(n: u32) -> usize {
