@@ -6,6 +6,7 @@ use Rattle.jp2_record.specs.declared.Jp2.{Jp2}
 use Rattle.jp2_picture.specs.Image.{Image, component, width, height, sampleAt}
 use Rattle.jp2_picture.specs.Words.{Handed, Empty, channelSample}
 use Rattle.jp2_picture.specs.PictureRule.{FilledPlanes}
+use Rattle.jp2_picture.specs.EveryPicture.{EveryPlane}
 use Rattle.jp2_picture.specs.OrderFreedom.{SamePlanes}
 
 -- at every point of channel c's plane stands the channel's sample
@@ -18,3 +19,8 @@ tells-sample h m planes filled c l some y x a b = filled .fills c l .sample some
 -- every record of the same planes is the same, its mark aside
 pub tells-record : (planes others : Image) → SamePlanes planes others → (p k : ℕ) → p < planes .count → k < 12 → component others p k ≡ component planes p k
 tells-record planes others same p k l b = same .records p k l b
+
+-- every channel is in order where nothing defines the channels
+pub tells-order :
+    (h : Handed) (m : Jp2) (planes : Image) (every : EveryPlane h m planes) → m .lists .cdef .count ≡ 0 → (c : ℕ) → c < planes .count → every .filled .pairing .to c ≡ c
+tells-order h m planes every none c l = every .in-order none c l
