@@ -5,7 +5,7 @@ use native.Mathlib.Omega.{arith}
 use types.Run.{OneOf, miss}
 use denote.Enum.Declared.{tagOf}
 use mathlib.Core.Path.{_≡_, refl, sym, ap, _∙_}
-use mathlib.Core.List.{List, [], _∷_}
+use mathlib.Core.List.{List, [], _∷_, _++_}
 use lib.IntN.{ℤ}
 use lib.ListN.{length, drop}
 use Rattle.jp2_record.specs.declared.Jp2.{Jp2}
@@ -16,9 +16,11 @@ use Rattle.jp2_file.specs.declared.Reading.{Reading}
 use Rattle.jp2_file.specs.File.{Walked, codestream, ended, turnedDown, read, reading}
 use Rattle.jp2_file.proofs.FileAnswer.{the-type}
 use Rattle.jp2_reading.specs.Alike.{given}
-use Rattle.jp2_picture.specs.Image.{Image}
-use Rattle.jp2_picture.specs.Finish.{Finishing, finished, declined, finish}
+use Rattle.jp2_picture.specs.Image.{Image, image}
+use Rattle.jp2_picture.specs.Finish.{Finishing, finished, declined, counted, finish}
 use Rattle.jp2_picture.specs.Words.{Handed, Accepted}
+use Rattle.jp2_picture.specs.PictureRule.{RightPlanes}
+use Rattle.jp2_picture.specs.EveryPicture.{EveryPlane}
 use Rattle.jp2_picture.proofs.Destinations.{right-in-place, every-in-place}
 use Rattle.jp2_finish.specs.declared.Finished.{Finished}
 use Rattle.jp2_finish.specs.declared.Finished.the-variants.{Planes, Refused}
@@ -53,23 +55,24 @@ module _ (h : Handed) where
   unfolding pictured
   reading-on e d = rw (told-read (read (h .file)) e d)
 
-  -- demand 3, of the destinations
-  pub right : (x : Finishing) {r : Finished} (records : List ℕ) (planes : List ℤ) {records′ : List ℕ} {planes′ : List ℤ} → pictured h ≡ x → r ≡ answered x → records′ ≡ recordsAfter x records → planes′ ≡ samplesAfter x planes → PictureRight h r records′ planes′
+  -- what holds of every accepted picture, whatever stands behind it, holds of the destinations where planes are answered
+  carried :
+      (x : Finishing) {r : Finished} (records : List ℕ) (planes : List ℤ) {records′ : List ℕ} {planes′ : List ℤ} → pictured h ≡ x → r ≡ answered x → records′ ≡ recordsAfter x records → planes′ ≡ samplesAfter x planes →
+      (P : Image → Type 0) (m : Jp2) (n : ℕ) → given (read (h .file)) ≡ accepted m → r ≡ Planes n →
+      ((p : Image) → Accepted h m p → (d : List ℕ) (e : List ℤ) → P (image (p .components ++ d) (p .count) (p .samples ++ e))) → P (image records′ n planes′)
   unfolding answered recordsAfter samplesAfter pictured
-  right (finished p) records planes is a u v m n accepts e defined clear =
+  carried (finished p) records planes is a u v P m n accepts e holds =
       let q : n ≡ p .count = cc in
       let f : finish (h .file) m (h .ignore) (h .image) (h .records) (h .samples) ≡ finished p = rw accepts at is in
-      rw (q, u, v) (right-in-place h m p (record { reading = accepts; finishing = f }) defined clear (drop (length (p .components)) records) (drop (length (p .samples)) planes))
-  right (declined number place) records planes is a u v m n accepts e defined clear = let z : _≡_ {A = ℕ} 0 1 = cc in absurd (omega arith)
+      rw (q, u, v) (holds p (record { reading = accepts; finishing = f }) (drop (length (p .components)) records) (drop (length (p .samples)) planes))
+  carried (declined number place) records planes is a u v P m n accepts e holds = let z : _≡_ {A = ℕ} 0 1 = cc in absurd (omega arith)
 
-  -- and what of it needs no premise
-  pub every : (x : Finishing) {r : Finished} (records : List ℕ) (planes : List ℤ) {records′ : List ℕ} {planes′ : List ℤ} → pictured h ≡ x → r ≡ answered x → records′ ≡ recordsAfter x records → planes′ ≡ samplesAfter x planes → PictureFilled h r records′ planes′
-  unfolding answered recordsAfter samplesAfter pictured
-  every (finished p) records planes is a u v m n accepts e =
-      let q : n ≡ p .count = cc in
-      let f : finish (h .file) m (h .ignore) (h .image) (h .records) (h .samples) ≡ finished p = rw accepts at is in
-      rw (q, u, v) (every-in-place h m p (record { reading = accepts; finishing = f }) (drop (length (p .components)) records) (drop (length (p .samples)) planes))
-  every (declined number place) records planes is a u v m n accepts e = let z : _≡_ {A = ℕ} 0 1 = cc in absurd (omega arith)
+  -- demand 3, and what of it needs no premise
+  right : (x : Finishing) {r : Finished} (records : List ℕ) (planes : List ℤ) {records′ : List ℕ} {planes′ : List ℤ} → pictured h ≡ x → r ≡ answered x → records′ ≡ recordsAfter x records → planes′ ≡ samplesAfter x planes → PictureRight h r records′ planes′
+  right x records planes is a u v m n accepts e defined clear = carried x records planes is a u v (RightPlanes h m) m n accepts e (λ p y d s. right-in-place h m p y defined clear d s)
+
+  every : (x : Finishing) {r : Finished} (records : List ℕ) (planes : List ℤ) {records′ : List ℕ} {planes′ : List ℤ} → pictured h ≡ x → r ≡ answered x → records′ ≡ recordsAfter x records → planes′ ≡ samplesAfter x planes → PictureFilled h r records′ planes′
+  every x records planes is a u v m n accepts e = carried x records planes is a u v (EveryPlane h (counted (h .ignore) m)) m n accepts e (λ p y d s. every-in-place h m p y d s)
 
   -- all five clauses at once
   abbrev Shown : Finished → List ℕ → List ℕ → List ℤ → List ℤ → Type 0
