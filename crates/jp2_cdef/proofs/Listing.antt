@@ -12,7 +12,7 @@ use lib.Seq.{getD-append-add, getD-drop, ext-getD}
 use Rattle.jp2_cio.specs.Table.{_=?_, _and_, otherwise, _⇒_∣_, table}
 use Rattle.jp2_cio.proofs.Rows.{row, each, either}
 use Rattle.jp2_record.specs.declared.Span.{Span}
-use Rattle.jp2_palette.specs.Cdef.{Cn, Typ, Asoc}
+use Rattle.jp2_channels.specs.Cdef.{Cn, Typ, Asoc}
 use Rattle.jp2_order.specs.Definitions.{Def, def, definition, definitions, definitionsTo}
 use Rattle.jp2_order.specs.Order.{Arranged, define, run, arranged}
 use Rattle.jp2_order.specs.Flat.{flat}

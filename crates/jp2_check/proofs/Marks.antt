@@ -11,7 +11,7 @@ use lib.Seq.{getD-set-same, getD-set-other}
 use Rattle.jp2_cio.specs.Table.{_=?_}
 use Rattle.jp2_cio.proofs.Rows.{row, each}
 use Rattle.jp2_record.specs.declared.Span.{Span}
-use Rattle.jp2_palette.specs.Cdef.{Cn}
+use Rattle.jp2_channels.specs.Cdef.{Cn}
 use Rattle.jp2_picture.specs.Channels.{lowest}
 use Rattle.jp2_picture.specs.Check.{undefined}
 use Rattle.jp2_check.specs.Parts.{mark, unmarked}

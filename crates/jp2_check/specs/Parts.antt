@@ -5,7 +5,7 @@ use mathlib.Core.List.{List}
 use lib.ListN.{length, getD}
 use Rattle.jp2_cio.specs.Table.{Test, _=?_, _<?_, _and_, otherwise, _⇒_∣_, table}
 use Rattle.jp2_record.specs.declared.Span.{Span}
-use Rattle.jp2_palette.specs.Cdef.{Cn}
+use Rattle.jp2_channels.specs.Cdef.{Cn}
 use Rattle.jp2_picture.specs.Channels.{some}
 
 -- a list of elements of so many bytes lies in f, where it has any

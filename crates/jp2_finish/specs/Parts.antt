@@ -11,7 +11,7 @@ use Rattle.jp2_record.specs.declared.Span.{Span}
 use Rattle.jp2_record.specs.declared.Palette.{Palette}
 use Rattle.jp2_record.specs.declared.Jp2.{Jp2}
 use Rattle.jp2_palette.specs.Pclr.{depth, sign, B}
-use Rattle.jp2_palette.specs.Cmap.{MTYP}
+use Rattle.jp2_channels.specs.Cmap.{MTYP}
 use Rattle.jp2_order.specs.Flat.{flat}
 use Rattle.jp2_picture.specs.Image.{Image, image, component, first, none, size}
 use Rattle.jp2_picture.specs.Channels.{channels}

@@ -53,8 +53,8 @@ use Rattle.jp2_record.proofs.Answer.Laws as S′
 use Rattle.jp2_lent.specs.Lent.{leaves}
 use Rattle.jp2_lent.proofs.Lending.{Meaning, core-clauses, lent-clauses}
 -- any function over a lent record, and any of this crate: all have these signatures
-use Rattle.jp2_lent.proofs.opj_jp2_read_ihdr as core
-use Rattle.jp2_lend.proofs.lend_ihdr as this
+use Rattle.jp2_lent.proofs.opj_jp2_read_jp as core
+use Rattle.jp2_lend.proofs.lend_jp as this
 
 abbrev R : RattleType
 R = T.the-row

@@ -1,17 +1,9 @@
 // The readers over a lent record, for callers that have the record by value: each lends a local of its own, takes the record back and answers both.
+// Here the signature box and the file type box.
 ghost use mathlib.Core.Path.{_≡_};
 ghost use Rattle.jp2_record.specs.Answer.{answer};
 ghost use Rattle.jp2_signature.specs.Signature.{signature};
 ghost use Rattle.jp2_signature.specs.FileType.{fileType};
-ghost use Rattle.jp2_image.specs.Ihdr.{ihdr};
-ghost use Rattle.jp2_image.specs.Bpcc.{bpcc};
-ghost use Rattle.jp2_colour.specs.Colr.{colr};
-ghost use Rattle.jp2_palette.specs.Pclr.{pclr};
-ghost use Rattle.jp2_palette.specs.Cmap.{cmap};
-ghost use Rattle.jp2_palette.specs.Cdef.{cdef};
-ghost use Rattle.jp2_walk.specs.Jp2h.{jp2hAlone};
-ghost use Rattle.jp2_file.specs.File.{walk, reading};
-use jp2_file::Reading;
 use jp2_record::Jp2;
 use jp2_record::Outcome;
 
@@ -29,68 +21,4 @@ pub fn lend_ftyp(c: &[u8], place: u32, start: u32, j: Jp2) -> Outcome
     let mut k = j;
     let a = jp2_lent::opj_jp2_read_ftyp(c, place, start, &mut k);
     Outcome { answer: a, jp2: k }
-}
-
-pub fn lend_ihdr(c: &[u8], place: u32, start: u32, j: Jp2) -> Outcome
-    ensures { λ r. ⌜ r ≡ answer j (ihdr place start (now (c .entry)) j) ⌝ }
-{
-    let mut k = j;
-    let a = jp2_lent::opj_jp2_read_ihdr(c, place, start, &mut k);
-    Outcome { answer: a, jp2: k }
-}
-
-pub fn lend_bpcc(c: &[u8], place: u32, start: u32, j: Jp2) -> Outcome
-    ensures { λ r. ⌜ r ≡ answer j (bpcc place start (now (c .entry)) j) ⌝ }
-{
-    let mut k = j;
-    let a = jp2_lent::opj_jp2_read_bpcc(c, place, start, &mut k);
-    Outcome { answer: a, jp2: k }
-}
-
-pub fn lend_colr(c: &[u8], place: u32, start: u32, j: Jp2) -> Outcome
-    ensures { λ r. ⌜ r ≡ answer j (colr place start (now (c .entry)) j) ⌝ }
-{
-    let mut k = j;
-    let a = jp2_lent::opj_jp2_read_colr(c, place, start, &mut k);
-    Outcome { answer: a, jp2: k }
-}
-
-pub fn lend_pclr(c: &[u8], place: u32, start: u32, j: Jp2) -> Outcome
-    ensures { λ r. ⌜ r ≡ answer j (pclr place start (now (c .entry)) j) ⌝ }
-{
-    let mut k = j;
-    let a = jp2_lent::opj_jp2_read_pclr(c, place, start, &mut k);
-    Outcome { answer: a, jp2: k }
-}
-
-pub fn lend_cmap(c: &[u8], place: u32, start: u32, j: Jp2) -> Outcome
-    ensures { λ r. ⌜ r ≡ answer j (cmap place start (now (c .entry)) j) ⌝ }
-{
-    let mut k = j;
-    let a = jp2_lent::opj_jp2_read_cmap(c, place, start, &mut k);
-    Outcome { answer: a, jp2: k }
-}
-
-pub fn lend_cdef(c: &[u8], place: u32, start: u32, j: Jp2) -> Outcome
-    ensures { λ r. ⌜ r ≡ answer j (cdef place start (now (c .entry)) j) ⌝ }
-{
-    let mut k = j;
-    let a = jp2_lent::opj_jp2_read_cdef(c, place, start, &mut k);
-    Outcome { answer: a, jp2: k }
-}
-
-pub fn lend_jp2h(c: &[u8], place: u32, start: u32, j: Jp2) -> Outcome
-    ensures { λ r. ⌜ r ≡ answer j (jp2hAlone place start (now (c .entry)) j) ⌝ }
-{
-    let mut k = j;
-    let a = jp2_lentfile::opj_jp2_read_jp2h(c, place, start, &mut k);
-    Outcome { answer: a, jp2: k }
-}
-
-pub fn lend_header_procedure(s: &[u8], j: Jp2) -> Reading
-    ensures { λ r. ⌜ r ≡ reading j (walk (now (s .entry)) j) ⌝ }
-{
-    let mut k = j;
-    let a = jp2_lentfile::opj_jp2_read_header_procedure(s, &mut k);
-    Reading { answer: a, jp2: k }
 }

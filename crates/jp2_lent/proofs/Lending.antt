@@ -49,8 +49,8 @@ use Rattle.jp2_record.proofs.Answer as S
 use Rattle.jp2_record.proofs.Answer.Laws as S′
 use Rattle.jp2_lent.specs.Lent.{leaves}
 -- any core, and any function over a lent record: all have these signatures
-use Rattle.jp2_image.proofs.opj_jp2_read_ihdr as core
-use Rattle.jp2_lent.proofs.opj_jp2_read_ihdr as this
+use Rattle.jp2_signature.proofs.opj_jp2_read_jp as core
+use Rattle.jp2_lent.proofs.opj_jp2_read_jp as this
 
 abbrev content-slot : Slot 2
 content-slot = shrSliceOf (0 ∷ []) tt (plain (λ _. u8))

@@ -1,15 +1,9 @@
-// The readers of a box over a header record that is lent: each takes the record out, calls the reader by value, stores the record back and answers.
+// The signature box and the file type box over a header record that is lent: each reader takes the record out, calls the reader by value, stores the record back and answers.
 // `leaves r (now (j .exit)) ≡ answer ..`: the answer and the record at exit are together what the reader's definition says, so a refusal leaves the record as it was.
 ghost use mathlib.Core.Path.{_≡_};
 ghost use Rattle.jp2_record.specs.Answer.{answer};
 ghost use Rattle.jp2_signature.specs.Signature.{signature};
 ghost use Rattle.jp2_signature.specs.FileType.{fileType};
-ghost use Rattle.jp2_image.specs.Ihdr.{ihdr};
-ghost use Rattle.jp2_image.specs.Bpcc.{bpcc};
-ghost use Rattle.jp2_colour.specs.Colr.{colr};
-ghost use Rattle.jp2_palette.specs.Pclr.{pclr};
-ghost use Rattle.jp2_palette.specs.Cmap.{cmap};
-ghost use Rattle.jp2_palette.specs.Cdef.{cdef};
 ghost use Rattle.jp2_lent.specs.Lent.{leaves};
 use jp2_record::Answer;
 use jp2_record::Jp2;
@@ -26,54 +20,6 @@ pub fn opj_jp2_read_ftyp(c: &[u8], place: u32, start: u32, j: &mut Jp2) -> Answe
     ensures { λ r. ⌜ leaves r (now (j .exit)) ≡ answer (now (j .entry)) (fileType place start (now (c .entry)) (now (j .entry))) ⌝ }
 {
     let r = jp2_signature::opj_jp2_read_ftyp(c, place, start, *j);
-    *j = r.jp2;
-    r.answer
-}
-
-pub fn opj_jp2_read_ihdr(c: &[u8], place: u32, start: u32, j: &mut Jp2) -> Answer
-    ensures { λ r. ⌜ leaves r (now (j .exit)) ≡ answer (now (j .entry)) (ihdr place start (now (c .entry)) (now (j .entry))) ⌝ }
-{
-    let r = jp2_image::opj_jp2_read_ihdr(c, place, start, *j);
-    *j = r.jp2;
-    r.answer
-}
-
-pub fn opj_jp2_read_bpcc(c: &[u8], place: u32, start: u32, j: &mut Jp2) -> Answer
-    ensures { λ r. ⌜ leaves r (now (j .exit)) ≡ answer (now (j .entry)) (bpcc place start (now (c .entry)) (now (j .entry))) ⌝ }
-{
-    let r = jp2_image::opj_jp2_read_bpcc(c, place, start, *j);
-    *j = r.jp2;
-    r.answer
-}
-
-pub fn opj_jp2_read_colr(c: &[u8], place: u32, start: u32, j: &mut Jp2) -> Answer
-    ensures { λ r. ⌜ leaves r (now (j .exit)) ≡ answer (now (j .entry)) (colr place start (now (c .entry)) (now (j .entry))) ⌝ }
-{
-    let r = jp2_colour::opj_jp2_read_colr(c, place, start, *j);
-    *j = r.jp2;
-    r.answer
-}
-
-pub fn opj_jp2_read_pclr(c: &[u8], place: u32, start: u32, j: &mut Jp2) -> Answer
-    ensures { λ r. ⌜ leaves r (now (j .exit)) ≡ answer (now (j .entry)) (pclr place start (now (c .entry)) (now (j .entry))) ⌝ }
-{
-    let r = jp2_palette::opj_jp2_read_pclr(c, place, start, *j);
-    *j = r.jp2;
-    r.answer
-}
-
-pub fn opj_jp2_read_cmap(c: &[u8], place: u32, start: u32, j: &mut Jp2) -> Answer
-    ensures { λ r. ⌜ leaves r (now (j .exit)) ≡ answer (now (j .entry)) (cmap place start (now (c .entry)) (now (j .entry))) ⌝ }
-{
-    let r = jp2_palette::opj_jp2_read_cmap(c, place, start, *j);
-    *j = r.jp2;
-    r.answer
-}
-
-pub fn opj_jp2_read_cdef(c: &[u8], place: u32, start: u32, j: &mut Jp2) -> Answer
-    ensures { λ r. ⌜ leaves r (now (j .exit)) ≡ answer (now (j .entry)) (cdef place start (now (c .entry)) (now (j .entry))) ⌝ }
-{
-    let r = jp2_palette::opj_jp2_read_cdef(c, place, start, *j);
     *j = r.jp2;
     r.answer
 }

@@ -6,7 +6,7 @@ use mathlib.Core.List.{List, [], _∷_, _++_}
 use lib.Dec.{eqb}
 use Rattle.jp2_cio.specs.Table.{pick}
 use Rattle.jp2_record.specs.declared.Span.{Span}
-use Rattle.jp2_palette.specs.Cdef.{Cn, Typ, Asoc}
+use Rattle.jp2_channels.specs.Cdef.{Cn, Typ, Asoc}
 
 -- a definition: its channel (Cn), its type (Typ) and its association (Asoc)
 pub record Def : Type 0 where

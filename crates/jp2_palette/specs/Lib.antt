@@ -1,3 +1,1 @@
 pub mod Pclr
-pub mod Cmap
-pub mod Cdef

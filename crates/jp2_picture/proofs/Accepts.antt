@@ -9,7 +9,7 @@ use native.Mathlib.Omega.{arith}
 use Rattle.jp2_cio.specs.Table.{_=?_}
 use Rattle.jp2_cio.proofs.Rows.{Says}
 use Rattle.jp2_record.specs.declared.Jp2.{Jp2}
-use Rattle.jp2_palette.specs.Cdef.{Cn}
+use Rattle.jp2_channels.specs.Cdef.{Cn}
 use Rattle.jp2_order.specs.Definitions.{Def}
 use Rattle.jp2_picture.specs.Channels.{lowest, channels}
 use Rattle.jp2_picture.specs.Check.{misnamed, undefined}

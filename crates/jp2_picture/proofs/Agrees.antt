@@ -12,7 +12,7 @@ use Rattle.jp2_cio.specs.Number.{number}
 use Rattle.jp2_cio.proofs.Rows.{Says, row, each}
 use Rattle.jp2_record.specs.declared.Jp2.{Jp2}
 use Rattle.jp2_palette.specs.Pclr.{depth, sign, B, rowBytes}
-use Rattle.jp2_palette.specs.Cmap.{MTYP}
+use Rattle.jp2_channels.specs.Cmap.{MTYP}
 use Rattle.jp2_reading.specs.Free.{SamePalette, SameMappings}
 use Rattle.jp2_order.specs.Definitions.{definitionsTo, definitions, Reordered}
 use Rattle.jp2_picture.specs.Image.{Image}

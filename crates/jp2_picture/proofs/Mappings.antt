@@ -7,7 +7,7 @@ use mathlib.Core.List.{List}
 use native.Mathlib.Omega.{arith}
 use Rattle.jp2_cio.proofs.Rows.{Says, row, each}
 use Rattle.jp2_record.specs.declared.Jp2.{Jp2}
-use Rattle.jp2_palette.specs.Cmap.{CMP}
+use Rattle.jp2_channels.specs.Cmap.{CMP}
 use Rattle.jp2_picture.specs.Image.{Image}
 use Rattle.jp2_picture.specs.Channels.{mapped, channels, componentOf, typeOf}
 use Rattle.jp2_picture.specs.Check.{mismapped}

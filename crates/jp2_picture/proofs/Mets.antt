@@ -19,8 +19,8 @@ use Rattle.jp2_image.specs.Ihdr.{ihdr}
 use Rattle.jp2_image.specs.Bpcc.{bpcc}
 use Rattle.jp2_colour.specs.Colr.{lab, colr}
 use Rattle.jp2_palette.specs.Pclr.{entryBytes, rowBytes, Cji, pclr}
-use Rattle.jp2_palette.specs.Cmap.{cmap}
-use Rattle.jp2_palette.specs.Cdef.{cdef}
+use Rattle.jp2_channels.specs.Cmap.{cmap}
+use Rattle.jp2_channels.specs.Cdef.{cdef}
 use Rattle.jp2_walk.specs.Split.{split}
 use Rattle.jp2_walk.specs.Jp2h.{readAll, lacksIhdr, jp2h}
 use Rattle.jp2_file.specs.File.{outer, run, walk, read}

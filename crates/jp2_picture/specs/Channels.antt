@@ -4,7 +4,7 @@ use mathlib.Core.List.{List}
 use Rattle.jp2_cio.specs.Table.{Test, _=?_, _≠?_, _<?_, _and_, Rows, otherwise, _⇒_∣_, table}
 use Rattle.jp2_record.specs.declared.Span.{Span}
 use Rattle.jp2_record.specs.declared.Jp2.{Jp2}
-use Rattle.jp2_palette.specs.Cmap.{CMP, MTYP}
+use Rattle.jp2_channels.specs.Cmap.{CMP, MTYP}
 
 -- the lowest index below n for which a test holds; n where it holds for none
 unfoldable pub lowest : (ℕ → Test) → ℕ → ℕ

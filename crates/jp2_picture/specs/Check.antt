@@ -3,8 +3,8 @@ use Prim.Native.Nat.{ℕ, _+_}
 use mathlib.Core.List.{List}
 use Rattle.jp2_cio.specs.Table.{Test, _=?_, _≠?_, _<?_, _or_, _and_}
 use Rattle.jp2_record.specs.declared.Span.{Span}
-use Rattle.jp2_palette.specs.Cmap.{CMP, MTYP, PCOL}
-use Rattle.jp2_palette.specs.Cdef.{Cn, Asoc}
+use Rattle.jp2_channels.specs.Cmap.{CMP, MTYP, PCOL}
+use Rattle.jp2_channels.specs.Cdef.{Cn, Asoc}
 use Rattle.jp2_picture.specs.Image.{Image, first, none}
 use Rattle.jp2_picture.specs.Channels.{lowest}
 

@@ -13,8 +13,8 @@ use Rattle.jp2_record.specs.declared.Jp2.{Jp2}
 use Rattle.jp2_record.specs.Record.{span, palette, withPclr, withCmap, withCdef}
 use Rattle.jp2_record.specs.Answer.{accepted}
 use Rattle.jp2_palette.specs.Pclr.{NE, NPC, rowBytes, pclr}
-use Rattle.jp2_palette.specs.Cmap.{cmap}
-use Rattle.jp2_palette.specs.Cdef.{N, cdef}
+use Rattle.jp2_channels.specs.Cmap.{cmap}
+use Rattle.jp2_channels.specs.Cdef.{N, cdef}
 use Rattle.jp2_reading.proofs.Sames.{Same, within, shorter, number-same, row-same}
 use Rattle.jp2_reading.proofs.Parts.{Lies}
 

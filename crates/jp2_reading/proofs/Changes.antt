@@ -12,7 +12,7 @@ use Rattle.jp2_record.specs.declared.Status.{Status}
 use Rattle.jp2_record.specs.declared.Jp2.{Jp2}
 use Rattle.jp2_record.specs.Record.{span, palette, withImage, withColour, withFileType, withStatus, withCl, withBpcc, withIcc, withPclr, withCmap, withCdef, withState, withHasIhdr}
 use Rattle.jp2_palette.specs.Pclr.{NE, NPC, rowBytes}
-use Rattle.jp2_palette.specs.Cdef.{N}
+use Rattle.jp2_channels.specs.Cdef.{N}
 use Rattle.jp2_reading.proofs.Parts.{Lies}
 
 -- the flags of a status, and of a colour with the count of its Lab numbers

@@ -17,8 +17,8 @@ use Rattle.jp2_image.specs.Ihdr.{image, ihdr}
 use Rattle.jp2_image.specs.Bpcc.{bpcc}
 use Rattle.jp2_colour.specs.Colr.{lab, colr}
 use Rattle.jp2_palette.specs.Pclr.{pclr}
-use Rattle.jp2_palette.specs.Cmap.{cmap}
-use Rattle.jp2_palette.specs.Cdef.{N, cdef}
+use Rattle.jp2_channels.specs.Cmap.{cmap}
+use Rattle.jp2_channels.specs.Cdef.{N, cdef}
 use Rattle.jp2_walk.specs.Child.{skipped, reader}
 use Rattle.jp2_file.specs.File.{ended, thenWalk}
 use Rattle.jp2_reading.proofs.Sames.{number-same}

@@ -6,7 +6,7 @@ use Rattle.jp2_cio.specs.Number.{part}
 use Rattle.jp2_record.specs.declared.Jp2.{Jp2}
 use Rattle.jp2_record.specs.Answer.{accepted}
 use Rattle.jp2_palette.specs.Pclr.{B, Cji}
-use Rattle.jp2_palette.specs.Cmap.{CMP, MTYP, PCOL}
+use Rattle.jp2_channels.specs.Cmap.{CMP, MTYP, PCOL}
 use Rattle.jp2_file.specs.File.{read}
 use Rattle.jp2_reading.specs.Alike.{Alike, given, definitions}
 

@@ -9,8 +9,8 @@ use Rattle.jp2_record.specs.declared.Jp2.{Jp2}
 use Rattle.jp2_record.specs.Record.{withPclr, withCmap, withCdef}
 use Rattle.jp2_record.specs.Answer.{accepted}
 use Rattle.jp2_palette.specs.Pclr.{pclr}
-use Rattle.jp2_palette.specs.Cmap.{cmap}
-use Rattle.jp2_palette.specs.Cdef.{cdef}
+use Rattle.jp2_channels.specs.Cmap.{cmap}
+use Rattle.jp2_channels.specs.Cdef.{cdef}
 use Rattle.jp2_file.specs.File.{read}
 use Rattle.jp2_reading.specs.Alike.{given}
 

@@ -11,8 +11,8 @@ use Rattle.jp2_image.specs.Ihdr.{ihdr}
 use Rattle.jp2_image.specs.Bpcc.{bpcc}
 use Rattle.jp2_colour.specs.Colr.{colr}
 use Rattle.jp2_palette.specs.Pclr.{pclr}
-use Rattle.jp2_palette.specs.Cmap.{cmap}
-use Rattle.jp2_palette.specs.Cdef.{cdef}
+use Rattle.jp2_channels.specs.Cmap.{cmap}
+use Rattle.jp2_channels.specs.Cdef.{cdef}
 use Rattle.jp2_walk.specs.Split.{Box}
 
 -- the image state's unknown bits tell of a box that was skipped

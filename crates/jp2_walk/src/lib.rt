@@ -28,8 +28,8 @@ pub fn read_content(ty: Jp2BoxType, c: &[u8], place: u32, start: u32, j: Jp2) ->
         Jp2BoxType::BPCC => jp2_image::opj_jp2_read_bpcc(c, place, start, j),
         Jp2BoxType::COLR => jp2_colour::opj_jp2_read_colr(c, place, start, j),
         Jp2BoxType::PCLR => jp2_palette::opj_jp2_read_pclr(c, place, start, j),
-        Jp2BoxType::CMAP => jp2_palette::opj_jp2_read_cmap(c, place, start, j),
-        Jp2BoxType::CDEF => jp2_palette::opj_jp2_read_cdef(c, place, start, j),
+        Jp2BoxType::CMAP => jp2_channels::opj_jp2_read_cmap(c, place, start, j),
+        Jp2BoxType::CDEF => jp2_channels::opj_jp2_read_cdef(c, place, start, j),
         _ => {
             let mut status = j.status;
             status.imgstate = status.imgstate / 2147483648 * 2147483648 + 2147483647;

@@ -19,7 +19,7 @@ use Rattle.jp2_record.specs.Answer.{accepted}
 use Rattle.jp2_image.specs.Ihdr as image
 use Rattle.jp2_image.specs.Bpcc as depths
 use Rattle.jp2_colour.specs.Colr as colour
-use Rattle.jp2_palette.specs.Cdef as channels
+use Rattle.jp2_channels.specs.Cdef as channels
 use Rattle.jp2_walk.specs.Child.{child}
 use Rattle.jp2_written.specs.Request.{Request}
 use Rattle.jp2_written.specs.Bpcc.{bpccContent}

@@ -32,11 +32,11 @@ fn file_type(j: Jp2) -> Jp2 {
 fn header(j: Jp2) -> Jp2 {
     let k = came(
         b"jp2h with an ihdr of 13 bytes",
-        jp2_lend::lend_jp2h(b"\0\0\0\x15ihdr\0\0\0\x03\0\0\0\x05\0\x01\0\0\0", 32, 40, j),
+        jp2_lendjp2h::lend_jp2h(b"\0\0\0\x15ihdr\0\0\0\x03\0\0\0\x05\0\x01\0\0\0", 32, 40, j),
     );
     came(
         b"jp2h",
-        jp2_lend::lend_jp2h(
+        jp2_lendjp2h::lend_jp2h(
             b"\0\0\0\x16ihdr\0\0\0\x03\0\0\0\x05\0\x01\0\0\0\0",
             32,
             40,
@@ -49,31 +49,31 @@ fn header(j: Jp2) -> Jp2 {
 fn image(j: Jp2) -> Jp2 {
     let k = came(
         b"ihdr of 13 bytes",
-        jp2_lend::lend_ihdr(b"\0\0\0\x03\0\0\0\x02\0\x01\x07\x07\0", 40, 48, j),
+        jp2_lendjp2h::lend_ihdr(b"\0\0\0\x03\0\0\0\x02\0\x01\x07\x07\0", 40, 48, j),
     );
     came(
         b"ihdr",
-        jp2_lend::lend_ihdr(b"\0\0\0\x03\0\0\0\x02\0\x01\x07\x07\0\0", 40, 48, k),
+        jp2_lendjp2h::lend_ihdr(b"\0\0\0\x03\0\0\0\x02\0\x01\x07\x07\0\0", 40, 48, k),
     )
 }
 
 fn depths(j: Jp2) -> Jp2 {
     let k = came(
         b"bpcc of 2 bytes",
-        jp2_lend::lend_bpcc(b"\x07\x07", 62, 70, j),
+        jp2_lendjp2h::lend_bpcc(b"\x07\x07", 62, 70, j),
     );
-    came(b"bpcc", jp2_lend::lend_bpcc(b"\x07", 62, 70, k))
+    came(b"bpcc", jp2_lendjp2h::lend_bpcc(b"\x07", 62, 70, k))
 }
 
 // Method 1, and the colour space grey.
 fn colour(j: Jp2) -> Jp2 {
     let k = came(
         b"colr of 2 bytes",
-        jp2_lend::lend_colr(b"\x01\0", 71, 79, j),
+        jp2_lendjp2h::lend_colr(b"\x01\0", 71, 79, j),
     );
     came(
         b"colr",
-        jp2_lend::lend_colr(b"\x01\0\0\0\0\0\x11", 71, 79, k),
+        jp2_lendjp2h::lend_colr(b"\x01\0\0\0\0\0\x11", 71, 79, k),
     )
 }
 
@@ -83,11 +83,14 @@ fn palette(j: Jp2) -> Jp2 {
     jp2_cio::opj_write_bytes(&mut d, 0, 1025, 2);
     jp2_cio::opj_write_bytes(&mut d, 2, 1, 1);
     jp2_cio::opj_write_bytes(&mut d, 3, 7, 1);
-    let k = came(b"pclr of 1025 entries", jp2_lend::lend_pclr(&d, 86, 94, j));
+    let k = came(
+        b"pclr of 1025 entries",
+        jp2_lendjp2h::lend_pclr(&d, 86, 94, j),
+    );
     jp2_cio::opj_write_bytes(&mut d, 0, 1024, 2);
     came(
         b"pclr of 1024 entries",
-        jp2_lend::lend_pclr(jp2_cio::part(&d, 0, 1028), 86, 94, k),
+        jp2_lendjp2h::lend_pclr(jp2_cio::part(&d, 0, 1028), 86, 94, k),
     )
 }
 
@@ -95,19 +98,22 @@ fn palette(j: Jp2) -> Jp2 {
 fn mappings(j: Jp2) -> Jp2 {
     let k = came(
         b"cmap of 3 bytes",
-        jp2_lend::lend_cmap(b"\0\0\x01", 1122, 1130, j),
+        jp2_lendjp2h::lend_cmap(b"\0\0\x01", 1122, 1130, j),
     );
-    came(b"cmap", jp2_lend::lend_cmap(b"\0\0\x01\0", 1122, 1130, k))
+    came(
+        b"cmap",
+        jp2_lendjp2h::lend_cmap(b"\0\0\x01\0", 1122, 1130, k),
+    )
 }
 
 // One definition: channel 0 is colour 1.
 fn definitions(j: Jp2) -> Jp2 {
     let k = came(
         b"cdef of no definitions",
-        jp2_lend::lend_cdef(b"\0\0\0\0\0\0\0\x01", 1134, 1142, j),
+        jp2_lendjp2h::lend_cdef(b"\0\0\0\0\0\0\0\x01", 1134, 1142, j),
     );
     came(
         b"cdef",
-        jp2_lend::lend_cdef(b"\0\x01\0\0\0\0\0\x01", 1134, 1142, k),
+        jp2_lendjp2h::lend_cdef(b"\0\x01\0\0\0\0\0\x01", 1134, 1142, k),
     )
 }

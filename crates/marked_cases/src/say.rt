@@ -19,7 +19,7 @@ pub fn came(case: &[u8], file: &[u8]) {
 
 // The same over a lent record, and the width that stands in it afterwards.
 fn lent(file: &[u8]) {
-    let r = jp2_lend::lend_header_procedure(file, jp2_record::opj_jp2_create());
+    let r = jp2_lendfile::lend_header_procedure(file, jp2_record::opj_jp2_create());
     let a = r.answer;
     answer(b"; lent ", a);
     say(b", width #\n", &[wide(r.jp2.image.w)]);

@@ -8,7 +8,7 @@ use mathlib.Core.List.{List}
 use borrow.Author.Count.{below-more}
 use Rattle.jp2_cio.proofs.Rows.{Says, row}
 use Rattle.jp2_record.specs.declared.Span.{Span}
-use Rattle.jp2_palette.specs.Cmap.{CMP}
+use Rattle.jp2_channels.specs.Cmap.{CMP}
 use Rattle.jp2_picture.specs.Image.{first}
 use Rattle.jp2_picture.specs.Channels.{componentOf}
 use Rattle.jp2_picture.specs.Check.{dataless}

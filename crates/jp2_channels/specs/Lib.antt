@@ -1,0 +1,2 @@
+pub mod Cmap
+pub mod Cdef
