@@ -21,7 +21,7 @@ use Rattle.jp2_picture.proofs.Indices.{decide}
 use Rattle.jp2_picture.proofs.Packs.{Held, size-some, start-more, packed-length}
 use Rattle.jp2_picture.proofs.Mappings.{kept, mapped-channels, plain-type, component-inside}
 use Rattle.jp2_cio.specs.Number.{placed}
-use Rattle.jp2_plane.specs.Plane.{noColumn}
+use Rattle.jp2_column.specs.Column.{noColumn}
 use Rattle.jp2_plane.proofs.Columns.{channel-is}
 use Rattle.jp2_cio.proofs.Placing.{placed-after}
 use Rattle.jp2_comps.specs.Alone.{listed, mappings}

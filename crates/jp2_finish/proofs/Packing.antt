@@ -12,7 +12,9 @@ use Rattle.jp2_record.specs.declared.Palette.{Palette}
 use Rattle.jp2_picture.specs.Samples.{valueFor}
 use Rattle.jp2_picture.specs.Image.{first, none, size}
 use Rattle.jp2_cio.specs.Number.{placed}
-use Rattle.jp2_plane.specs.Plane.{plane, put, outside, noColumn}
+use Rattle.jp2_column.specs.Put.{put}
+use Rattle.jp2_column.specs.Column.{noColumn}
+use Rattle.jp2_plane.specs.Plane.{plane, outside}
 use Rattle.jp2_comps.specs.Alone.{listed}
 use Rattle.jp2_finish.specs.Parts.{samplesAt, Packable}
 

@@ -18,7 +18,8 @@ use Rattle.jp2_picture.specs.Channels.{channels}
 use Rattle.jp2_picture.specs.Samples.{packed, startOf, valueFor}
 use Rattle.jp2_picture.specs.Check.{mismapped}
 use Rattle.jp2_picture.specs.Finish.{Finishing, outsideLists, outsideFile, expanded}
-use Rattle.jp2_plane.specs.Plane.{plane, noColumn}
+use Rattle.jp2_column.specs.Column.{noColumn}
+use Rattle.jp2_plane.specs.Plane.{plane}
 use Rattle.jp2_comps.specs.Alone.{listed}
 use Rattle.jp2_finish.specs.declared.Finished.{Finished}
 use Rattle.jp2_finish.specs.Answers.{answered, recordsAfter, samplesAfter}

@@ -1,23 +1,13 @@
--- What keeps samples from being put: what an answer tells of it, and the same tests told in another way.
+-- What keeps samples of a channel from being put, told in another way.
 -- Assumes nothing.
 use Prim.Native.Nat.{ℕ}
-use mathlib.Core.Path.{_≡_, refl, sym, _∙_}
-use mathlib.Core.Bool.{Bool, true, false, not}
+use mathlib.Core.Path.{_≡_}
+use mathlib.Core.Bool.{Bool}
 use mathlib.Core.List.{List}
 use lib.IntN.{ℤ}
-use borrow.Author.Tests.{not-true, not-false, eq-eqb, ne-eqb}
+use borrow.Author.Tests.{eq-eqb, ne-eqb}
 use Rattle.jp2_cio.specs.Table.{Test, _=?_, _or_, _and_, holds, table}
-use Rattle.jp2_cio.proofs.Rows.{Says, true-false, each}
-use Rattle.jp2_plane.specs.Plane.{done, put}
-
--- what a refusal, or its absence, tells of what is amiss
-pub done-true : (t : Test) {b : Bool} → b ≡ done t → not b ≡ false → Says false t
-unfolding done
-done-true t {b} e f = each (λ b. b ≡ true → Says false t) _ ((λ h g. true-false (sym g)), λ h g. h) (sym e ∙ not-false b f)
-
-pub done-false : (t : Test) {b : Bool} → b ≡ done t → not b ≡ true → Says true t
-unfolding done
-done-false t {b} e f = each (λ b. b ≡ false → Says true t) _ ((λ h g. h), λ h g. true-false g) (sym e ∙ not-true b f)
+use Rattle.jp2_column.specs.Put.{done, put}
 
 -- a test that is made for type 1 only
 type-1 : (typ : ℕ) (s t : Test) → typ ≡ 1 → holds (s or t) ≡ holds (typ =? 1 and s or t)

@@ -1,4 +1,3 @@
 pub mod Amiss
-pub mod Entries
 pub mod Columns
 pub mod Lookups

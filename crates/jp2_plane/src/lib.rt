@@ -5,39 +5,12 @@ ghost use mathlib.Core.List.{map};
 ghost use lib.IntN.{pos};
 ghost use lib.ListN.{length, getD, set};
 ghost use Rattle.jp2_cio.specs.Table.{_=?_, _<?_, _or_, _and_};
-ghost use Rattle.jp2_picture.specs.Samples.{floored, held, displayed, lookup, valueFor};
+ghost use Rattle.jp2_picture.specs.Samples.{lookup, valueFor};
 ghost use Rattle.jp2_cio.specs.Number.{placed};
-ghost use Rattle.jp2_plane.specs.Plane.{plane, outside, noColumn, done, put, column, entryFor};
+ghost use Rattle.jp2_column.specs.Put.{done, put};
+ghost use Rattle.jp2_column.specs.Column.{noColumn};
+ghost use Rattle.jp2_plane.specs.Plane.{plane, outside, entryFor};
 use jp2_record::Palette;
-
-// An entry of a palette as a sample.
-pub fn displayed(e: u32) -> i32
-    ensures { λ r. ⌜ r ≡ displayed e ⌝ }
-{
-    if e < 0x8000_0000 {
-        e as i32
-    } else {
-        ((e - 0x8000_0000) as i32) + (-2147483648)
-    }
-}
-
-// A sample, or 0 where it is below 0.
-fn floored(s: i32) -> u32
-    ensures { λ r. ⌜ r ≡ floored s ⌝ }
-{
-    if s < 0 {
-        return 0;
-    }
-    s as u32
-}
-
-// The index that a sample picks among entries of which the last has the given index.
-pub fn held(s: i32, last: u32) -> u32
-    ensures { λ r. ⌜ r ≡ held s last ⌝ }
-{
-    let u = floored(s);
-    if u < last { u } else { last }
-}
 
 // Whether n elements from a place on lie in a list of the given length.
 fn inside(len: usize, from: usize, n: usize) -> bool
@@ -78,64 +51,12 @@ pub fn copy_plane(src: &[i32], from: usize, n: usize, dst: &mut [i32], at: usize
     true
 }
 
-// Whether column i of the palette is there, and the palette lies in the file f.
-fn has_column(f: &[u8], p: Palette, i: u32) -> bool
-    ensures { λ r. ⌜ r ≡ done (noColumn (now (f .entry)) p i) ⌝ }
-{
-    let place = p.place;
-    let entries = p.entries as usize;
-    let columns = p.columns as usize;
-    if entries == 0 {
-        return false;
-    }
-    if 1024 < entries {
-        return false;
-    }
-    if 255 < columns {
-        return false;
-    }
-    if columns <= i as usize {
-        return false;
-    }
-    if f.len() < place {
-        return false;
-    }
-    let rest = &f[place..];
-    if rest.len() < columns {
-        return false;
-    }
-    if rest.len() - columns < entries * jp2_palette::row_bytes(rest, 0, columns as u8) {
-        return false;
-    }
-    true
-}
-
-// The entries of the palette's column i, as samples, at the front of out.
-fn decode_column(f: &[u8], p: Palette, i: u32, out: &mut [i32])
-    requires { ⌜ (p .place ≤ length (now f)) × (p .entries ≤ 1024) × (p .columns ≤ 255) × (i < p .columns) × (p .entries ≤ length (now out)) ⌝ }
-    ensures { λ _. ⌜ now (out .exit) ≡ placed (now (out .entry)) 0 (column (now (f .entry)) p i (p .entries)) ⌝ }
-{
-    let place = p.place;
-    let entries = p.entries as usize;
-    let columns = p.columns as usize;
-    let rest = &f[place..];
-    let wide = jp2_palette::entry_bytes(jp2_cio::read_u8(rest, i as usize));
-    let row = jp2_palette::row_bytes(rest, 0, columns as u8);
-    let mut at = columns + jp2_palette::row_bytes(rest, 0, i as u8);
-    let mut j = 0;
-    while j < entries {
-        out[j] = displayed(jp2_cio::opj_read_bytes(rest, at, wide));
-        at += row;
-        j += 1;
-    }
-}
-
 // Looks one sample up.
 fn look_up(entries: &[i32; 1024], last: u32, src: &[i32], i: usize, dst: &mut [i32], j: usize)
     requires { ⌜ (last < 1024) × (i < length (now src)) × (j < length (now dst)) ⌝ }
     ensures { λ _. ⌜ now (dst .exit) ≡ set (now (dst .entry)) j (entryFor (now (entries .entry)) last (getD (now (src .entry)) i (pos 0))) ⌝ }
 {
-    let e = held(src[i], last) as usize;
+    let e = jp2_sample::held(src[i], last) as usize;
     dst[j] = entries[e];
 }
 
@@ -196,9 +117,6 @@ pub fn lookup_plane(
     ensures { λ r. ⌜ r ≡ done (noColumn (now (f .entry)) p i or outside (now (src .entry)) from n (now (dst .entry)) at) ⌝ }
     ensures { λ _. ⌜ now (dst .exit) ≡ put (noColumn (now (f .entry)) p i or outside (now (src .entry)) from n (now (dst .entry)) at) (now (dst .entry)) at (map (lookup (now (f .entry)) p i) (plane (now (src .entry)) from n)) ⌝ }
 {
-    if !has_column(f, p, i) {
-        return false;
-    }
     if !inside(src.len(), from, n) {
         return false;
     }
@@ -206,7 +124,9 @@ pub fn lookup_plane(
         return false;
     }
     let mut entries = [0i32; 1024];
-    decode_column(f, p, i, &mut entries);
+    if !jp2_column::read_column(f, p, i, &mut entries) {
+        return false;
+    }
     lookup_inside(&entries, p.entries - 1, src, from, n, dst, at);
     true
 }

@@ -3,8 +3,8 @@
 use native.Mathlib.Omega.{arith}
 use mathlib.Core.Path.{refl}
 use Rattle.jp2_cio.proofs.Rows.{row}
-use Rattle.jp2_plane.specs.Plane.{done, put}
-use Rattle.jp2_plane.proofs.Amiss.{done-true, done-false}
+use Rattle.jp2_column.specs.Put.{done, put}
+use Rattle.jp2_column.proofs.Amiss.{done-true, done-false}
 use borrow.Author.Needs.{needs}
 use Rattle.jp2_plane.proofs.copy_plane.Statement.{statement}
 use Rattle.jp2_plane.proofs.copy_plane.Tie as tie

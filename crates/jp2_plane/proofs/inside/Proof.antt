@@ -3,7 +3,7 @@
 use native.Mathlib.Omega.{arith}
 use mathlib.Core.Path.{refl}
 use Rattle.jp2_cio.proofs.Rows.{row}
-use Rattle.jp2_plane.specs.Plane.{done}
+use Rattle.jp2_column.specs.Put.{done}
 use Rattle.jp2_plane.proofs.inside.Statement.{statement}
 use Rattle.jp2_plane.proofs.inside.Tie as tie
 

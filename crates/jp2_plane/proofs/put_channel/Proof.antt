@@ -1,7 +1,8 @@
 -- `jp2_plane::put_channel` meets its contract.
 -- Assumes nothing.
 use native.Mathlib.Omega.{arith}
-use Rattle.jp2_plane.specs.Plane.{plane, outside, noColumn}
+use Rattle.jp2_column.specs.Column.{noColumn}
+use Rattle.jp2_plane.specs.Plane.{plane, outside}
 use Rattle.jp2_plane.proofs.Amiss.{same-looked, same-direct}
 use Rattle.jp2_plane.proofs.Columns.{channel-looked, channel-direct}
 use borrow.Author.Needs.{needs}

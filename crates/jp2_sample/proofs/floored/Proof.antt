@@ -1,9 +1,9 @@
--- `jp2_plane::floored` meets its contract.
+-- `jp2_sample::floored` meets its contract.
 -- Assumes nothing.
 use mir.Facts.{toZ-ofZ, fits-natAbs}
-use Rattle.jp2_plane.proofs.Entries.{floor-neg, not-neg, floor-pos}
-use Rattle.jp2_plane.proofs.floored.Statement.{statement}
-use Rattle.jp2_plane.proofs.floored.Tie as tie
+use Rattle.jp2_sample.proofs.Entries.{floor-neg, not-neg, floor-pos}
+use Rattle.jp2_sample.proofs.floored.Statement.{statement}
+use Rattle.jp2_sample.proofs.floored.Tie as tie
 
 returns : tie.Need-returns
 returns c = floor-neg (c .before .args .s) (rw (toZ-ofZ (c .before .fits .s)) at (c .if1 .taken))

@@ -1,4 +1,4 @@
--- `jp2_plane::decode_column` meets its contract. Before turn j the first j entries stand in the array.
+-- `jp2_column::decode_column` meets its contract. Before turn j the first j entries stand in the array.
 -- Assumes nothing.
 use Prim.Native.Nat.{_+_, _*_, _≤_, _-_}
 use native.Mathlib.Nat.{zero-add, zero-mul}
@@ -15,11 +15,11 @@ use Rattle.jp2_palette.specs.Pclr.{entryBytes}
 use Rattle.jp2_palette.proofs.Entries.{rows-most}
 use Rattle.jp2_picture.specs.Samples.{displayed}
 use Rattle.jp2_cio.specs.Number.{placed}
-use Rattle.jp2_plane.specs.Plane.{column}
+use Rattle.jp2_column.specs.Column.{column}
 use Rattle.jp2_cio.proofs.Placing.{Placing, placing-none, placing-more, placing-all}
-use Rattle.jp2_plane.proofs.Columns.{rows-more, row-small, entry-read, length-column, column-at}
-use Rattle.jp2_plane.proofs.decode_column.Statement.{statement}
-use Rattle.jp2_plane.proofs.decode_column.Tie as tie
+use Rattle.jp2_column.proofs.Columns.{rows-more, row-small, entry-read, length-column, column-at}
+use Rattle.jp2_column.proofs.decode_column.Statement.{statement}
+use Rattle.jp2_column.proofs.decode_column.Tie as tie
 
 abbrev Inv-loop : tie.InvT-loop
 Inv-loop f i out₀ place entries columns rest wide row at₀ j₀ out at j = (j ≤ entries) × (at ≡ at₀ + j * row) × Placing out₀ 0 (column f (palette place entries columns) i entries) out j

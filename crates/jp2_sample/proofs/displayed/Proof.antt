@@ -1,12 +1,12 @@
--- `jp2_plane::displayed` meets its contract.
+-- `jp2_sample::displayed` meets its contract.
 -- Assumes nothing.
 use native.Mathlib.Omega.{arith}
 use mathlib.Core.Path.{_∙_}
 use mir.Facts.{toZ-ofZ}
-use Rattle.jp2_plane.proofs.Entries.{displayed-low, high, displayed-high}
+use Rattle.jp2_sample.proofs.Entries.{displayed-low, high, displayed-high}
 use borrow.Author.Needs.{needs}
-use Rattle.jp2_plane.proofs.displayed.Statement.{statement}
-use Rattle.jp2_plane.proofs.displayed.Tie as tie
+use Rattle.jp2_sample.proofs.displayed.Statement.{statement}
+use Rattle.jp2_sample.proofs.displayed.Tie as tie
 
 cast-result : tie.Need-cast-result
 cast-result c = search needs

@@ -1,12 +1,12 @@
--- `jp2_plane::held` meets its contract.
+-- `jp2_sample::held` meets its contract.
 -- Assumes nothing.
 use native.Mathlib.Omega.{arith}
 use mathlib.Core.Path.{_≡_, refl, ap, _∙_}
 use mir.Facts.{toZ-ofZ}
 use Rattle.jp2_cio.proofs.Rows.{row}
 use Rattle.jp2_picture.specs.Samples.{floored}
-use Rattle.jp2_plane.proofs.held.Statement.{statement}
-use Rattle.jp2_plane.proofs.held.Tie as tie
+use Rattle.jp2_sample.proofs.held.Statement.{statement}
+use Rattle.jp2_sample.proofs.held.Tie as tie
 
 floored-requires : tie.Need-floored-requires
 floored-requires c κs = tt

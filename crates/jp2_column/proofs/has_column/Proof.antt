@@ -1,13 +1,13 @@
--- `jp2_plane::has_column` meets its contract.
+-- `jp2_column::has_column` meets its contract.
 -- Assumes nothing.
 use native.Mathlib.Omega.{arith}
 use mathlib.Core.Path.{refl}
 use Rattle.jp2_cio.proofs.Rows.{row}
 use Rattle.jp2_palette.proofs.Entries.{rows-most}
-use Rattle.jp2_plane.specs.Plane.{done}
-use Rattle.jp2_plane.proofs.Columns.{length-rest, rows-are}
-use Rattle.jp2_plane.proofs.has_column.Statement.{statement}
-use Rattle.jp2_plane.proofs.has_column.Tie as tie
+use Rattle.jp2_column.specs.Put.{done}
+use Rattle.jp2_column.proofs.Columns.{length-rest, rows-are}
+use Rattle.jp2_column.proofs.has_column.Statement.{statement}
+use Rattle.jp2_column.proofs.has_column.Tie as tie
 
 cast-entries : tie.Need-cast-entries
 cast-entries c = omega arith
