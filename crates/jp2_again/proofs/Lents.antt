@@ -1,19 +1,16 @@
 -- Finishing looks at three lists of the record alone: the palette, the mappings and the definitions.
 -- Assumes nothing.
 use Prim.Native.Nat.{ℕ, zero, suc, _+_}
-use mathlib.Core.Path.{_≡_, refl, sym, ap, ap₂, _∙_, fun-ext}
+use mathlib.Core.Path.{_≡_, refl, sym, ap, _∙_, fun-ext}
 use mathlib.Core.List.{List, _++_}
 use lib.IntN.{ℤ}
-use Rattle.jp2_cio.specs.Table.{_=?_, _≠?_, _and_, otherwise, _⇒_∣_, table}
+use Rattle.jp2_cio.specs.Table.{_=?_, _and_, otherwise, _⇒_∣_}
 use Rattle.jp2_cio.proofs.Rows.{row, each}
 use Rattle.jp2_record.specs.declared.Jp2.{Jp2}
 use Rattle.jp2_record.specs.Record.{blank, span, palette, withPclr, withCmap, withCdef}
-use Rattle.jp2_palette.specs.Pclr.{depth, sign, B}
 use Rattle.jp2_order.specs.Definitions.{definitions}
-use Rattle.jp2_order.specs.Order.{arranged}
-use Rattle.jp2_order.specs.Flat.{flat}
-use Rattle.jp2_picture.specs.Image.{Image, component, first, none, size}
-use Rattle.jp2_picture.specs.Channels.{mapped, channels, componentOf, typeOf}
+use Rattle.jp2_picture.specs.Image.{Image, size}
+use Rattle.jp2_picture.specs.Channels.{channels, componentOf, typeOf}
 use Rattle.jp2_picture.specs.Samples.{valueOf, channelSamples, packed, startOf}
 use Rattle.jp2_picture.specs.Finish.{Finishing, counted, expanded, picture, fitted, coloured, finish}
 

@@ -1,20 +1,14 @@
 -- Reading and then finishing comes to the same as both in one step.
 -- Assumes nothing.
-use Prim.Native.Nat.{ℕ, _≤_}
 use native.Mathlib.Omega.{arith}
-use mathlib.Core.Path.{_≡_, refl, sym, ap, _∙_}
-use mathlib.Core.Bool.{false}
-use mathlib.Core.List.{List}
-use lib.ListN.{length, length-append}
-use Rattle.jp2_cio.proofs.Rows.{Says}
+use mathlib.Core.Path.{_≡_, refl, _∙_}
 use Rattle.jp2_record.specs.Record.{blank}
 use Rattle.jp2_file.specs.File.{Walked, codestream, ended, turnedDown, read, reading}
 use Rattle.jp2_reading.proofs.Definitions.{numbers-within}
 use Rattle.jp2_reading.proofs.Sounds.{record-sound}
-use Rattle.jp2_picture.specs.Words.{Handed}
 use Rattle.jp2_whole.specs.Whole.{pictured}
 use Rattle.jp2_numbers.specs.Numbers.{numbers}
-use Rattle.jp2_again.specs.Again.{noReading, again, Fits, TwoSteps, FitsMet}
+use Rattle.jp2_again.specs.Again.{again, Fits, TwoSteps, FitsMet}
 use Rattle.jp2_again.proofs.Agains.{refused, on}
 use Rattle.jp2_again.proofs.Lents.{finish-same}
 

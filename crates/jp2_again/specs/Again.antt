@@ -3,7 +3,7 @@ use Prim.Native.Nat.{ℕ, _≤_, _<_}
 use mathlib.Core.Path.{_≡_}
 use mathlib.Core.List.{List}
 use lib.ListN.{length, getD}
-use Rattle.jp2_cio.specs.Table.{Test, _=?_, _<?_, _or_, _and_, Rows, otherwise, _⇒_∣_, table}
+use Rattle.jp2_cio.specs.Table.{Test, _=?_, _<?_, _or_, _and_, otherwise, _⇒_∣_, table}
 use Rattle.jp2_record.specs.declared.Jp2.{Jp2}
 use Rattle.jp2_record.specs.Record.{blank, span, palette, withPclr, withCmap, withCdef}
 use Rattle.jp2_record.specs.Answer.{accepted}

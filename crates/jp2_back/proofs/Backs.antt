@@ -17,7 +17,7 @@ use Rattle.jp2_written.specs.Writing.{Writing, written, declined, write, destin
 use Rattle.jp2_written.specs.RoundTrip.{ReadBack}
 use Rattle.jp2_written.proofs.Back.{round-trip}
 use Rattle.jp2_write.specs.declared.Written.{Written}
-use Rattle.jp2_write.specs.declared.Written.the-variants.{Bytes, Refused}
+use Rattle.jp2_write.specs.declared.Written.the-variants.{Bytes}
 use Rattle.jp2_write.specs.Answers.{answered}
 use Rattle.jp2_back.specs.Back.{bytesOf, readingOf, ComesBack}
 

@@ -3,7 +3,7 @@ use Prim.Native.Nat.{ℕ, _+_}
 use mathlib.Core.Bool.{Bool, true, false}
 use mathlib.Core.List.{List, _++_}
 use lib.ListN.{length}
-use Rattle.jp2_cio.specs.Table.{Test, _=?_, _<?_, Rows, otherwise, _⇒_∣_, table}
+use Rattle.jp2_cio.specs.Table.{Test, _=?_, _<?_, otherwise, _⇒_∣_, table}
 use Rattle.jp2_cio.specs.Number.{number, bytes, placed}
 use Rattle.jp2_kind.specs.Kind.{kindOf, numberOf}
 use Rattle.jp2_kind.specs.declared.Jp2BoxType.{Jp2BoxType}

@@ -3,7 +3,7 @@ ghost use Prim.Native.Nat.{ℕ, _+_, _*_, _≤_, _<_};
 ghost use mathlib.Core.Path.{_≡_};
 ghost use lib.ListN.{length, getD};
 ghost use Rattle.jp2_cio.specs.Table.{_≠?_, _<?_, _and_, holds};
-ghost use Rattle.jp2_picture.specs.Channels.{lowest, channels, direct, corrected};
+ghost use Rattle.jp2_picture.specs.Channels.{lowest, direct, corrected};
 ghost use Rattle.jp2_picture.specs.Check.{misnamed, undefined, mismapped};
 ghost use Rattle.jp2_picture.specs.Finish.{outsideFile, paletteOutside, mappingsOutside, definitionsOutside};
 ghost use Rattle.jp2_check.specs.Checked.{checked};

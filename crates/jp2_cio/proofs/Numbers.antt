@@ -1,11 +1,11 @@
 -- Numbers byte by byte, and parts of a list.
 -- Assumes nothing.
-use Prim.Native.Nat.{ℕ, zero, suc, _+_, _-_, _*_, _≤_, _<_}
+use Prim.Native.Nat.{ℕ, zero, suc, _+_, _-_, _*_, _≤_}
 use native.Mathlib.Nat.{add-zero}
 use native.Mathlib.Omega.{arith}
 use mathlib.Core.Path.{_≡_, refl, sym, ap, _∙_}
 use mathlib.Core.List.{List, []}
-use lib.ListN.{length, getD, take, drop, length-take, length-drop, List·getD-eq-default, drop-of-length-le}
+use lib.ListN.{length, getD, drop, length-take, length-drop, List·getD-eq-default, drop-of-length-le}
 use lib.Seq.{take-all, take-nil}
 use Rattle.jp2_cio.specs.Number.{number, part, least}
 use Rattle.jp2_cio.proofs.Rows.{row, each}

@@ -2,11 +2,11 @@
 -- Assumes nothing.
 use Prim.Native.Nat.{ℕ, zero, suc, _≤_, _<_}
 use mathlib.Core.Path.{_≡_, refl}
-use mathlib.Core.Bool.{Bool, true, false, _||_, _&&_}
+use mathlib.Core.Bool.{Bool, true, false}
 use native.Mathlib.Omega.{arith}
 use lib.Dec.{eqb}
 use borrow.Author.Tests.{eqb-true, eqb-false, ltb-true, ltb-false, not-true, not-false}
-use Rattle.jp2_cio.specs.Table.{Test, _=?_, _≠?_, _<?_, flag, _or_, _and_, Rows, otherwise, _⇒_∣_, holds, pick, table}
+use Rattle.jp2_cio.specs.Table.{Test, _=?_, _≠?_, _<?_, flag, _or_, _and_, Rows, otherwise, _⇒_∣_, holds, table}
 
 -- what is known of the numbers where a test holds (true) and where it fails (false)
 abbrev pub Says : Bool → Test → Type 0

@@ -2,7 +2,6 @@
 // has no room is not written.
 ghost use Prim.Native.Nat.{_+_};
 ghost use mathlib.Core.Path.{_≡_};
-ghost use lib.ListN.{length};
 ghost use Rattle.jp2_cio.specs.Number.{number, part, least, fits, written};
 
 // The bytes of s from start up to end; those past the end of s are not there.

@@ -4,7 +4,7 @@ use Prim.Native.Nat.{ℕ, _+_, _-_}
 use mathlib.Core.List.{List, [], _∷_}
 use lib.ListN.{length}
 use Rattle.jp2_cio.specs.Number.{number}
-use Rattle.jp2_cio.specs.Table.{Test, _=?_, _≠?_, _<?_, _and_, Rows, otherwise, _⇒_∣_, table}
+use Rattle.jp2_cio.specs.Table.{_=?_, _≠?_, _<?_, _and_, otherwise, _⇒_∣_, table}
 use Rattle.jp2_record.specs.declared.Lab.{Lab}
 use Rattle.jp2_record.specs.declared.Colour.{Colour}
 use Rattle.jp2_record.specs.declared.Jp2.{Jp2}

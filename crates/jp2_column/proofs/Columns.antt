@@ -6,22 +6,18 @@ use native.Mathlib.Numerals.{add-one}
 use native.Mathlib.Omega.{arith}
 use mathlib.Core.Path.{_≡_, refl, sym, ap, _∙_}
 use mathlib.Core.Logic.{⊎-elim}
-use mathlib.Core.List.{List, [], _∷_, map, map-id}
-use lib.IntN.{ℤ, pos}
+use mathlib.Core.List.{List, [], _∷_}
+use lib.IntN.{ℤ}
 use lib.ListN.{length, getD, take, drop, length-append, List·getD-append}
 use lib.Seq.{getD-at}
-use Rattle.jp2_cio.specs.Table.{_=?_, otherwise, _⇒_∣_}
 use Rattle.jp2_cio.specs.Number.{number, part, least}
 use Rattle.jp2_cio.proofs.Rows.{row, each}
 use Rattle.jp2_record.specs.declared.Palette.{Palette}
 use Rattle.jp2_palette.specs.Pclr.{entryBytes, rowBytes, B, rowSize, Cji}
 use Rattle.jp2_palette.proofs.Entries.{entry-most, row-most}
-use Rattle.jp2_record.specs.declared.Jp2.{Jp2}
-use Rattle.jp2_picture.specs.Image.{Image, first, size}
-use Rattle.jp2_picture.specs.Channels.{componentOf, typeOf}
-use Rattle.jp2_picture.specs.Samples.{floored, held, displayed, lookup, valueOf, channelSamples, valueFor}
+use Rattle.jp2_picture.specs.Image.{first}
+use Rattle.jp2_picture.specs.Samples.{displayed}
 use Rattle.jp2_picture.proofs.Rests.{rest-length, rest-number, rest-row}
-use Rattle.jp2_cio.specs.Number.{placed}
 use Rattle.jp2_column.specs.Column.{column}
 
 -- the lesser of two is at most the second, and is the first where that is at most the second

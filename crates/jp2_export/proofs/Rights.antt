@@ -1,11 +1,11 @@
 -- The picture rule from the answer's numbers: they tell of planes exactly where there are planes.
 -- Assumes nothing.
-use Prim.Native.Nat.{ℕ, _≤_}
+use Prim.Native.Nat.{ℕ}
 use native.Mathlib.Omega.{arith}
 use mathlib.Core.Path.{_≡_, refl, sym, ap, _∙_}
 use mathlib.Core.List.{List, [], _∷_}
 use lib.IntN.{ℤ}
-use lib.ListN.{length, getD}
+use lib.ListN.{getD}
 use Rattle.jp2_cio.specs.Number.{placed}
 use Rattle.jp2_record.specs.declared.Jp2.{Jp2}
 use Rattle.jp2_picture.specs.Image.{Image}

@@ -3,7 +3,7 @@ use Prim.Native.Nat.{ℕ, _+_, _/_, _%_, _≤_}
 use mathlib.Core.Path.{_≡_}
 use mathlib.Core.List.{List, []}
 use lib.ListN.{length}
-use Rattle.jp2_cio.specs.Table.{Test, _=?_, _<?_, flag, _or_, _and_, Rows, otherwise, _⇒_∣_, table}
+use Rattle.jp2_cio.specs.Table.{Test, _=?_, _<?_, flag, _or_, _and_, otherwise, _⇒_∣_, table}
 use Rattle.jp2_kind.specs.Kind.{kindOf, isFileHeader, isImageHeader}
 use Rattle.jp2_box.specs.Box.{TBox, headerLength, boxLength, headerOf}
 use Rattle.jp2_kind.specs.declared.Jp2BoxType.{Jp2BoxType}

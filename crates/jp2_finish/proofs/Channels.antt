@@ -26,7 +26,8 @@ use Rattle.jp2_plane.proofs.Columns.{channel-is}
 use Rattle.jp2_cio.proofs.Placing.{placed-after}
 use Rattle.jp2_comps.specs.Alone.{listed, mappings}
 use Rattle.jp2_finish.specs.Answers.{fronted}
-use Rattle.jp2_finish.specs.Parts.{typeAt, expandedAt, recordAt, samplesAt, Packable, Tested, Roomy, unordered}
+use Rattle.jp2_expand.specs.Channel.{typeAt, expandedAt}
+use Rattle.jp2_finish.specs.Parts.{recordAt, samplesAt, Packable, Tested, Roomy, unordered}
 
 -- a list at the front of a destination that is long enough leaves its length
 front-length : {A : Type 0} (xs d : List A) → length xs ≤ length d → length (fronted xs d) ≡ length d

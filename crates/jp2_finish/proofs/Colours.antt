@@ -1,31 +1,28 @@
 -- What finishing leaves in the destinations, once the checks have passed and once they have not.
 -- Assumes nothing.
-use Prim.Native.Nat.{ℕ, _+_, _*_, _≤_, _<_}
+use Prim.Native.Nat.{ℕ, _*_, _≤_}
 use native.Mathlib.Omega.{arith}
-use mathlib.Core.Path.{_≡_, refl, sym, ap, subst, _∙_}
-use mathlib.Core.Bool.{Bool, true, false}
+use mathlib.Core.Path.{_≡_, refl, sym, ap, _∙_}
+use mathlib.Core.Bool.{false}
 use mathlib.Core.List.{List, _++_}
 use lib.IntN.{ℤ}
-use lib.ListN.{length, drop, length-append}
-use Rattle.jp2_cio.specs.Table.{Test, _=?_, _<?_, _or_, _and_, holds}
-use Rattle.jp2_cio.proofs.Rows.{Says, row, each}
+use lib.ListN.{length, length-append}
+use Rattle.jp2_cio.specs.Table.{_=?_, _and_}
+use Rattle.jp2_cio.proofs.Rows.{Says}
 use Rattle.jp2_record.specs.declared.Jp2.{Jp2}
 use Rattle.jp2_order.specs.Definitions.{definitions}
 use Rattle.jp2_order.specs.Order.{arranged}
-use Rattle.jp2_order.specs.Flat.{flat}
 use Rattle.jp2_order.proofs.Flats.{flat-length}
 use Rattle.jp2_cdef.specs.Flat.{reordered}
 use Rattle.jp2_cdef.proofs.Fronts.{reordered-front}
-use Rattle.jp2_picture.specs.Image.{Image, image}
-use Rattle.jp2_picture.specs.Channels.{lowest, mapped, corrected, channels}
-use Rattle.jp2_picture.specs.Samples.{startOf}
-use Rattle.jp2_picture.specs.Check.{misnamed, undefined, mismapped, dataless}
-use Rattle.jp2_picture.specs.Finish.{Finishing, finished, declined, outsideLists, outsideFile, counted, expanded, picture, fitted, coloured, finish}
-use Rattle.jp2_picture.proofs.Indices.{decide, lowest-none}
+use Rattle.jp2_picture.specs.Image.{Image}
+use Rattle.jp2_picture.specs.Channels.{channels}
+use Rattle.jp2_picture.specs.Finish.{Finishing, finished, declined, outsideFile, expanded, picture}
+use Rattle.jp2_picture.proofs.Indices.{decide}
 use Rattle.jp2_finish.specs.declared.Finished.{Finished}
 use Rattle.jp2_finish.specs.declared.Finished.the-variants.{Planes, Refused}
 use Rattle.jp2_finish.specs.Answers.{answered, fronted, recordsAfter, samplesAfter}
-use Rattle.jp2_finish.specs.Parts.{Tested, unordered, Done}
+use Rattle.jp2_finish.specs.Parts.{unordered, Done}
 use Rattle.jp2_finish.proofs.Rooms.{refused-is}
 
 -- a refusal leaves both destinations

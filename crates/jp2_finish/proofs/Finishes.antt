@@ -1,13 +1,12 @@
 -- Finishing as a whole: 29 first, then the checks, then the rest of the table.
 -- Assumes nothing.
 use Prim.Native.Nat.{ℕ, _≤_, _<_}
-use native.Mathlib.Omega.{arith}
-use mathlib.Core.Path.{_≡_, refl, sym, ap, subst, _∙_}
+use mathlib.Core.Path.{_≡_, refl, sym, ap, _∙_}
 use mathlib.Core.Bool.{Bool, true, false}
 use mathlib.Core.List.{List}
 use lib.IntN.{ℤ}
 use Rattle.jp2_cio.specs.Table.{_<?_, _or_, _and_, holds, table}
-use Rattle.jp2_cio.proofs.Rows.{Says, not-both, shown, row, each}
+use Rattle.jp2_cio.proofs.Rows.{Says, not-both, row, each}
 use Rattle.jp2_record.specs.declared.Jp2.{Jp2}
 use Rattle.jp2_picture.specs.Image.{Image}
 use Rattle.jp2_picture.specs.Channels.{lowest, mapped, channels, corrected}

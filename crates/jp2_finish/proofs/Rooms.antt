@@ -2,12 +2,12 @@
 -- Assumes nothing.
 use Prim.Native.Nat.{ℕ, zero, suc, _+_, _*_, _≤_, _<_}
 use native.Mathlib.Omega.{arith}
-use mathlib.Core.Path.{_≡_, refl, sym, ap, ap₂, _∙_}
+use mathlib.Core.Path.{_≡_, refl, ap, ap₂, _∙_}
 use mathlib.Core.Bool.{false}
 use mathlib.Core.List.{List}
 use lib.IntN.{ℤ}
 use lib.ListN.{length}
-use Rattle.jp2_cio.specs.Table.{_=?_, _≠?_}
+use Rattle.jp2_cio.specs.Table.{_=?_}
 use Rattle.jp2_cio.proofs.Rows.{Says, row, each}
 use Rattle.jp2_record.specs.declared.Jp2.{Jp2}
 use Rattle.jp2_picture.specs.Image.{Image, image, first, none, size}
@@ -20,7 +20,6 @@ use Rattle.jp2_picture.proofs.Packs.{Within}
 use Rattle.jp2_picture.proofs.Mappings.{kept, channels-few, component-inside}
 use Rattle.jp2_comps.specs.Alone.{listed, mappings}
 use Rattle.jp2_comps.proofs.Planes.{size-none, size-area}
-use Rattle.jp2_finish.specs.declared.Finished.{Finished}
 use Rattle.jp2_finish.specs.declared.Finished.the-variants.{Planes, Refused}
 use Rattle.jp2_finish.specs.Answers.{answered}
 use Rattle.jp2_finish.specs.Parts.{Tested, Roomy}

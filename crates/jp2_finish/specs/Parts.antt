@@ -1,17 +1,14 @@
 -- For private functions only: channels over one list and a number at a time, what has been tested when planes are packed, and the picture before it is put in order.
 use Prim.Native.Nat.{ℕ, _+_, _*_, _≤_, _<_}
 use mathlib.Core.Path.{_≡_}
-use mathlib.Core.Bool.{Bool, false}
+use mathlib.Core.Bool.{false}
 use mathlib.Core.List.{List, map}
 use lib.IntN.{ℤ}
 use lib.ListN.{length}
-use Rattle.jp2_cio.specs.Table.{_=?_, _≠?_, _<?_, flag, _or_, _and_, otherwise, _⇒_∣_, table}
+use Rattle.jp2_cio.specs.Table.{_and_}
 use Rattle.jp2_cio.proofs.Rows.{Says}
-use Rattle.jp2_record.specs.declared.Span.{Span}
 use Rattle.jp2_record.specs.declared.Palette.{Palette}
 use Rattle.jp2_record.specs.declared.Jp2.{Jp2}
-use Rattle.jp2_palette.specs.Pclr.{depth, sign, B}
-use Rattle.jp2_channels.specs.Cmap.{MTYP}
 use Rattle.jp2_order.specs.Flat.{flat}
 use Rattle.jp2_picture.specs.Image.{Image, image, component, first, none, size}
 use Rattle.jp2_picture.specs.Channels.{channels}
@@ -21,21 +18,9 @@ use Rattle.jp2_picture.specs.Finish.{Finishing, outsideLists, outsideFile, expa
 use Rattle.jp2_column.specs.Column.{noColumn}
 use Rattle.jp2_plane.specs.Plane.{plane}
 use Rattle.jp2_comps.specs.Alone.{listed}
+use Rattle.jp2_expand.specs.Channel.{expandedAt}
 use Rattle.jp2_finish.specs.declared.Finished.{Finished}
 use Rattle.jp2_finish.specs.Answers.{answered, recordsAfter, samplesAfter}
-
--- `typeOf` over the mappings, where the checks have told whether these are corrected
-unfoldable pub typeAt : List ℕ → Span → Bool → ℕ → ℕ
-typeAt f l corrected c = table (flag corrected ⇒ 1 ∣ l .count ≠? 0 ⇒ MTYP f l c ∣ otherwise 0)
-
--- `expanded` for a channel c whose component is r and whose samples start at a place; there are so many mappings
-unfoldable pub expandedAt : List ℕ → Palette → ℕ → List ℕ → ℕ → ℕ → ℕ → ℕ → ℕ
-expandedAt f p mappings comps c r start k =
-    table
-    (mappings ≠? 0 and k =? 6 ⇒ depth (B f p c)
-    ∣ mappings ≠? 0 and k =? 8 ⇒ sign (B f p c)
-    ∣ first (listed comps) r ≠? none and k =? 11 ⇒ start
-    ∣ otherwise (component (listed comps) r k))
 
 -- the thirteen numbers of a channel's record
 abbrev pub recordAt : List ℕ → Palette → ℕ → List ℕ → ℕ → ℕ → ℕ → List ℕ

@@ -10,10 +10,11 @@ ghost use Rattle.jp2_picture.specs.Image.{image, size};
 ghost use Rattle.jp2_picture.specs.Channels.{lowest, mapped, corrected, componentOf};
 ghost use Rattle.jp2_picture.specs.Samples.{startOf};
 ghost use Rattle.jp2_picture.specs.Check.{dataless};
-ghost use Rattle.jp2_picture.specs.Finish.{counted, fitted, finish};
+ghost use Rattle.jp2_picture.specs.Finish.{fitted, finish};
 ghost use Rattle.jp2_comps.specs.Alone.{listed, mappings};
+ghost use Rattle.jp2_expand.specs.Channel.{typeAt};
 ghost use Rattle.jp2_finish.specs.Answers.{answered, fronted, recordsAfter, samplesAfter};
-ghost use Rattle.jp2_finish.specs.Parts.{typeAt, expandedAt, recordAt, samplesAt, Packable, Tested, Roomy, unordered, Done};
+ghost use Rattle.jp2_finish.specs.Parts.{recordAt, samplesAt, Packable, Tested, Roomy, unordered, Done};
 use jp2_check::Checked;
 use jp2_record::Jp2;
 use jp2_record::Palette;
@@ -23,74 +24,6 @@ use jp2_record::Span;
 pub enum Finished {
     Planes(u32),
     Refused(u32, u64),
-}
-
-// The record with the ignore flag taken into account: palette, mappings and definitions then count for nothing.
-fn counted(ignore: u32, m: Jp2) -> Jp2
-    ensures { λ r. ⌜ r ≡ counted ignore m ⌝ }
-{
-    if ignore == 0 {
-        return m;
-    }
-    let none = Span { place: 0, count: 0 };
-    let empty = Palette {
-        place: 0,
-        entries: 0,
-        columns: 0,
-    };
-    let mut lists = m.lists;
-    lists.pclr = empty;
-    lists.cmap = none;
-    lists.cdef = none;
-    let mut k = m;
-    k.lists = lists;
-    k
-}
-
-// The type of channel c: 1 where it is looked up in the palette.
-fn type_of(f: &[u8], l: Span, correct: bool, c: u32) -> u32
-    ensures { λ r. ⌜ r ≡ typeAt (now (f .entry)) l correct c ⌝ }
-{
-    if correct {
-        return 1;
-    }
-    if l.count == 0 {
-        return 0;
-    }
-    let list = jp2_cio::part(f, l.place, f.len());
-    jp2_cio::read_u8(list, 4 * c as usize + 2) as u32
-}
-
-// Number k of the record of channel c, whose component is r and whose samples start at a place; there are so many mappings.
-fn expanded_number(
-    f: &[u8],
-    p: Palette,
-    mappings: usize,
-    comps: &[u32],
-    c: u32,
-    r: u32,
-    start: u32,
-    k: u32,
-) -> u32
-    ensures { λ n. ⌜ n ≡ expandedAt (now (f .entry)) p mappings (now (comps .entry)) c r start k ⌝ }
-{
-    if k == 11 {
-        if jp2_comps::component(comps, r, 11) == 4294967295 {
-            return 4294967295;
-        }
-        return start;
-    }
-    if mappings == 0 {
-        return jp2_comps::component(comps, r, k);
-    }
-    let list = jp2_cio::part(f, p.place, f.len());
-    if k == 6 {
-        return jp2_cio::read_u8(list, c as usize) as u32 % 128 + 1;
-    }
-    if k == 8 {
-        return jp2_cio::read_u8(list, c as usize) as u32 / 128;
-    }
-    jp2_comps::component(comps, r, k)
 }
 
 // Puts the record of channel c to its place.
@@ -110,7 +43,16 @@ fn pack_record(
     let at = 13 * c as usize;
     let mut k: u32 = 0;
     while k < 13 {
-        records[at + k as usize] = expanded_number(f, p, mappings, comps, c, r, start, k);
+        records[at + k as usize] = jp2_expand::expanded_number(
+            f,
+            p,
+            mappings,
+            comps,
+            c,
+            r,
+            start,
+            k,
+        );
         k += 1;
     }
 }
@@ -167,7 +109,7 @@ fn pack_channel(
         samples,
         c,
         r,
-        type_of(f, l, correct, c),
+        jp2_expand::type_of(f, l, correct, c),
         planes,
         at,
     )
@@ -332,7 +274,7 @@ pub fn opj_jp2_apply_color_postprocessing(
     if jp2_check::outside_file(f, m) {
         return Finished::Refused(29, 0);
     }
-    let k = counted(ignore, m);
+    let k = jp2_expand::counted(ignore, m);
     match jp2_check::opj_jp2_check_color(f, k, count) {
         Checked::Refused(number, index) => Finished::Refused(number, index as u64),
         Checked::Passed(correct) => colour(f, k, correct, comps, count, samples, records, planes),

@@ -3,7 +3,7 @@ use Prim.Native.Nat.{ℕ, _+_}
 use mathlib.Core.List.{List}
 use lib.ListN.{length}
 use Rattle.jp2_cio.specs.Number.{number}
-use Rattle.jp2_cio.specs.Table.{Test, _≠?_, Rows, otherwise, _⇒_∣_, table}
+use Rattle.jp2_cio.specs.Table.{_≠?_, otherwise, _⇒_∣_, table}
 use Rattle.jp2_record.specs.declared.Span.{Span}
 use Rattle.jp2_record.specs.declared.Jp2.{Jp2}
 use Rattle.jp2_record.specs.Record.{span, withBpcc}

@@ -14,7 +14,6 @@ use Rattle.jp2_kind.specs.Kind.{kindOf, numberOf, isFileHeader, isImageH
 use Rattle.jp2_kind.specs.declared.Jp2BoxType.{Jp2BoxType}
 use Rattle.jp2_kind.specs.declared.Jp2BoxType.the-variants.{None, JPIP, JP, FTYP, JP2H, IHDR, COLR, JP2C, URL, PCLR, CMAP, CDEF, DTBL, BPCC, JP2, RES, JP2I, XML, UUID, UINF, Unknown}
 use Rattle.jp2_cio.proofs.Rows.{row, each}
-use native.Mathlib.Omega.{arith}
 
 number-back : (n : ℕ) → numberOf (kindOf n) ≡ n
 unfolding kindOf

@@ -1,6 +1,5 @@
 // A file read over a lent record for callers that have the record by value, in the way of jp2_lend.
 ghost use mathlib.Core.Path.{_≡_};
-ghost use Rattle.jp2_record.specs.Answer.{answer};
 ghost use Rattle.jp2_file.specs.File.{walk, reading};
 use jp2_file::Reading;
 use jp2_record::Jp2;

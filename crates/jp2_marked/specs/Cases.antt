@@ -20,7 +20,7 @@ use Rattle.jp2_channels.specs.Cdef.{cdef}
 use Rattle.jp2_walk.specs.Split.{split}
 use Rattle.jp2_walk.specs.Jp2h.{readAll, lacksIhdr, jp2h}
 use Rattle.jp2_file.specs.File.{Walked, codestream, ended, turnedDown, outer, run, walk, read}
-use Rattle.jp2_marked.specs.Files.{two, four, zeros, box, extended, signatureBox, fileTypeBox, streamBox, unknownBox, ihdrBox, greyBox, pclrBox, picture}
+use Rattle.jp2_marked.specs.Files.{two, four, box, extended, signatureBox, fileTypeBox, streamBox, unknownBox, ihdrBox, greyBox, pclrBox, picture}
 
 -- what a file is to come to: the codestream at an offset, "ended", or a number at a place
 pub data Expected : Type 0 where

@@ -1,7 +1,7 @@
 -- Document 01, "Colour, palette, order": what definitions, run in their order, make of the records of n channels.
 use Prim.Native.Nat.{ℕ, _+_, _-_}
 use mathlib.Core.List.{List, [], _∷_}
-use Rattle.jp2_cio.specs.Table.{Test, _=?_, _<?_, _or_, _and_, Rows, otherwise, _⇒_∣_, table}
+use Rattle.jp2_cio.specs.Table.{_=?_, _<?_, _or_, _and_, otherwise, _⇒_∣_, table}
 use Rattle.jp2_order.specs.Definitions.{Def}
 
 -- where each channel stands, and number k of the record at each position

@@ -4,7 +4,7 @@ use mathlib.Core.Path.{_≡_}
 use mathlib.Core.List.{List}
 use lib.ListN.{length, getD}
 use Rattle.jp2_order.specs.Definitions.{Def, def, Colour, times, Reordered}
-use Rattle.jp2_order.specs.Order.{Arranged, arranged}
+use Rattle.jp2_order.specs.Order.{arranged}
 
 -- channels and positions below n, each channel at one position and each position with one channel
 pub record Pairing (n : ℕ) : Type 0 where

@@ -4,7 +4,7 @@ use Prim.Native.Nat.{ℕ, zero, suc, _+_, _*_, _/_, _%_}
 use mathlib.Core.List.{List}
 use lib.ListN.{length}
 use Rattle.jp2_cio.specs.Number.{number, least}
-use Rattle.jp2_cio.specs.Table.{Test, _=?_, _≠?_, _<?_, _or_, Rows, otherwise, _⇒_∣_, table}
+use Rattle.jp2_cio.specs.Table.{_=?_, _≠?_, _<?_, _or_, otherwise, _⇒_∣_, table}
 use Rattle.jp2_record.specs.declared.Palette.{Palette}
 use Rattle.jp2_record.specs.declared.Jp2.{Jp2}
 use Rattle.jp2_record.specs.Record.{palette, withPclr}

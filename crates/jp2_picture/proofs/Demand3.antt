@@ -2,7 +2,7 @@
 -- Assumes nothing.
 use mathlib.Core.Path.{ap₂, subst}
 use mathlib.Core.List.{[], _++_, append-nil}
-use Rattle.jp2_order.proofs.Rules.{order-pairs, order-free}
+use Rattle.jp2_order.proofs.Rules.{order-free}
 use Rattle.jp2_picture.specs.Image.{Image, image}
 use Rattle.jp2_picture.specs.Finish.{counted}
 use Rattle.jp2_picture.specs.PictureRule.{RightPlanes, PictureRule}

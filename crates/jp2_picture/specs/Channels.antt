@@ -1,7 +1,7 @@
 -- I.5.3.5 and document 01: the channels of a picture. They are the palette's columns where a mapping exists, else the components.
 use Prim.Native.Nat.{ℕ, zero, suc}
 use mathlib.Core.List.{List}
-use Rattle.jp2_cio.specs.Table.{Test, _=?_, _≠?_, _<?_, _and_, Rows, otherwise, _⇒_∣_, table}
+use Rattle.jp2_cio.specs.Table.{Test, _=?_, _≠?_, _<?_, _and_, otherwise, _⇒_∣_, table}
 use Rattle.jp2_record.specs.declared.Span.{Span}
 use Rattle.jp2_record.specs.declared.Jp2.{Jp2}
 use Rattle.jp2_channels.specs.Cmap.{CMP, MTYP}

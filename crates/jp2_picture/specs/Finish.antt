@@ -2,7 +2,7 @@
 use Prim.Native.Nat.{ℕ, _+_, _*_}
 use mathlib.Core.List.{List}
 use lib.ListN.{length}
-use Rattle.jp2_cio.specs.Table.{Test, _=?_, _≠?_, _<?_, _or_, _and_, Rows, otherwise, _⇒_∣_, table}
+use Rattle.jp2_cio.specs.Table.{Test, _=?_, _≠?_, _<?_, _or_, _and_, otherwise, _⇒_∣_, table}
 use Rattle.jp2_record.specs.declared.Span.{Span}
 use Rattle.jp2_record.specs.declared.Palette.{Palette}
 use Rattle.jp2_record.specs.declared.Jp2.{Jp2}

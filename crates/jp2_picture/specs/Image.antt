@@ -3,7 +3,7 @@ use Prim.Native.Nat.{ℕ, _+_, _*_}
 use mathlib.Core.List.{List}
 use lib.IntN.{ℤ, pos}
 use lib.ListN.{getD}
-use Rattle.jp2_cio.specs.Table.{Test, _=?_, Rows, otherwise, _⇒_∣_, table}
+use Rattle.jp2_cio.specs.Table.{_=?_, otherwise, _⇒_∣_, table}
 
 pub record Image : Type 0 where
   pub components : List ℕ

@@ -2,7 +2,7 @@
 use Prim.Native.Nat.{ℕ}
 use mathlib.Core.Path.{_≡_}
 use mathlib.Core.List.{List, [], _∷_, _++_}
-use lib.IntN.{ℤ, pos}
+use lib.IntN.{pos}
 use Rattle.jp2_record.specs.declared.Jp2.{Jp2}
 use Rattle.jp2_marked.specs.Files.{two, box, ihdrBox, picture as fileOf}
 use Rattle.jp2_picture.specs.Image.{Image, image}

@@ -2,7 +2,7 @@
 use Prim.Native.Nat.{ℕ, _-_, _<_}
 use mathlib.Core.Path.{_≡_}
 use Rattle.jp2_record.specs.declared.Jp2.{Jp2}
-use Rattle.jp2_order.specs.Definitions.{Def, definition, Colour}
+use Rattle.jp2_order.specs.Definitions.{definition, Colour}
 use Rattle.jp2_order.specs.Rules.{Pairing}
 use Rattle.jp2_picture.specs.Image.{Image}
 use Rattle.jp2_picture.specs.Channels.{channels}

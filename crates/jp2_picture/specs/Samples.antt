@@ -3,7 +3,7 @@ use Prim.Native.Nat.{ℕ, zero, suc, _+_, _-_}
 use mathlib.Core.List.{List, [], map, _++_}
 use lib.IntN.{ℤ, pos, negsuc, _-ℤ_}
 use lib.ListN.{take, drop}
-use Rattle.jp2_cio.specs.Table.{Test, _=?_, _<?_, Rows, otherwise, _⇒_∣_, table}
+use Rattle.jp2_cio.specs.Table.{_=?_, _<?_, otherwise, _⇒_∣_, table}
 use Rattle.jp2_cio.specs.Number.{least}
 use Rattle.jp2_record.specs.declared.Palette.{Palette}
 use Rattle.jp2_record.specs.declared.Jp2.{Jp2}

@@ -1,26 +1,18 @@
 -- The entry of a palette's column that a sample picks, and what a channel makes of its samples.
 -- Assumes nothing.
-use Prim.Native.Nat.{ℕ, zero, suc, _+_, _-_, _*_, _≤_, _<_}
-use native.Mathlib.Nat.{eq-or-lt-of-le, suc-mul}
-use native.Mathlib.Numerals.{add-one}
+use Prim.Native.Nat.{ℕ, _+_, _-_, _≤_, _<_}
 use native.Mathlib.Omega.{arith}
 use mathlib.Core.Path.{_≡_, refl, sym, ap, _∙_}
-use mathlib.Core.Logic.{⊎-elim}
 use mathlib.Core.List.{List, [], _∷_, map, map-id}
 use lib.IntN.{ℤ, pos}
-use lib.ListN.{length, getD, take, drop, length-append, List·getD-append}
-use lib.Seq.{getD-at}
+use lib.ListN.{length, getD, drop, List·getD-append}
 use Rattle.jp2_cio.specs.Table.{_=?_, otherwise, _⇒_∣_}
-use Rattle.jp2_cio.specs.Number.{number, part, least}
-use Rattle.jp2_cio.proofs.Rows.{row, each}
+use Rattle.jp2_cio.proofs.Rows.{row}
 use Rattle.jp2_record.specs.declared.Palette.{Palette}
-use Rattle.jp2_palette.specs.Pclr.{entryBytes, rowBytes, B, rowSize, Cji}
-use Rattle.jp2_palette.proofs.Entries.{entry-most, row-most}
 use Rattle.jp2_record.specs.declared.Jp2.{Jp2}
 use Rattle.jp2_picture.specs.Image.{Image, first, size}
 use Rattle.jp2_picture.specs.Channels.{componentOf, typeOf}
-use Rattle.jp2_picture.specs.Samples.{floored, held, displayed, lookup, valueOf, channelSamples, valueFor}
-use Rattle.jp2_picture.proofs.Rests.{rest-length, rest-number, rest-row}
+use Rattle.jp2_picture.specs.Samples.{floored, held, lookup, valueOf, channelSamples, valueFor}
 use Rattle.jp2_cio.specs.Number.{placed}
 use Rattle.jp2_column.specs.Column.{column}
 use Rattle.jp2_column.proofs.Columns.{least-most, length-column, column-at}

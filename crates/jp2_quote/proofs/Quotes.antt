@@ -2,13 +2,12 @@
 -- Assumes nothing.
 use Prim.Native.Nat.{ℕ, zero, suc, _-_, _≤_, _<_}
 use native.Mathlib.Omega.{arith}
-use mathlib.Core.Path.{_≡_, refl, sym, ap, _∙_}
+use mathlib.Core.Path.{_≡_, refl, sym}
 use mathlib.Core.Bool.{Bool}
 use mathlib.Core.List.{List, [], _++_}
 use lib.ListN.{length, take, drop, length-drop}
 use lib.Seq.{take-all}
 use Rattle.jp2_cio.proofs.Rows.{row, each}
-use Rattle.jp2_quote.specs.Utf8.{character}
 use Rattle.jp2_quote.specs.Quote.{together, front, quotes, quoted}
 use Rattle.jp2_text.proofs.Puts.{Puts, Left, start, turn, done}
 use Rattle.jp2_quote.proofs.Utf8s.{character-fits}

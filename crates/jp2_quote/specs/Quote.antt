@@ -3,7 +3,7 @@ use Prim.Native.Nat.{ℕ, zero, suc, _+_, _/_, _%_}
 use mathlib.Core.Bool.{Bool}
 use mathlib.Core.List.{List, [], _∷_, _++_}
 use lib.ListN.{length, take, drop, getD}
-use Rattle.jp2_cio.specs.Table.{_=?_, _<?_, flag, _or_, _and_, Rows, otherwise, _⇒_∣_, table}
+use Rattle.jp2_cio.specs.Table.{_=?_, _<?_, flag, _or_, _and_, otherwise, _⇒_∣_, table}
 use Rattle.jp2_quote.specs.Utf8.{character}
 
 unfoldable pub digit : ℕ → ℕ

@@ -2,7 +2,7 @@
 use Prim.Native.Nat.{ℕ, _+_}
 use mathlib.Core.List.{List}
 use lib.ListN.{length, getD}
-use Rattle.jp2_cio.specs.Table.{Test, _=?_, _<?_, _or_, _and_, Rows, otherwise, _⇒_∣_, table}
+use Rattle.jp2_cio.specs.Table.{Test, _=?_, _<?_, _or_, _and_, otherwise, _⇒_∣_, table}
 
 -- byte i of a text lies between two numbers, or is one of them
 unfoldable pub within : List ℕ → ℕ → ℕ → ℕ → Test

@@ -1,6 +1,6 @@
 -- The bits of jp2_state: signature 1, file type 2, header 4, codestream 8.
 use Prim.Native.Nat.{ℕ, _+_, _*_, _/_, _%_}
-use Rattle.jp2_cio.specs.Table.{Test, _=?_, Rows, otherwise, _⇒_∣_, table}
+use Rattle.jp2_cio.specs.Table.{_=?_, otherwise, _⇒_∣_, table}
 use Rattle.jp2_record.specs.declared.Jp2.{Jp2}
 use Rattle.jp2_record.specs.Record.{withState, withImgstate}
 

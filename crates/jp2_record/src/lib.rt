@@ -1,7 +1,7 @@
 // The header record: `opj_jp2` of types.rs and what hangs on it, by value and in parts, and what a reader answers.
 ghost use mathlib.Core.Path.{_≡_};
 ghost use Rattle.jp2_record.specs.Record.{blank};
-ghost use Rattle.jp2_record.specs.Answer.{Result, accepted, refused, answer};
+ghost use Rattle.jp2_record.specs.Answer.{accepted, refused, answer};
 
 // ihdr. numcomps is the length of the crate's `comps`, and 0 until an ihdr is read.
 pub struct Image {

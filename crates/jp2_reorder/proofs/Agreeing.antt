@@ -5,7 +5,7 @@ use native.Mathlib.Omega.{arith}
 use mathlib.Core.Path.{_≡_, refl, sym, ap, _∙_}
 use mathlib.Core.Bool.{false}
 use mathlib.Core.List.{List}
-use lib.ListN.{getD, drop, List·getD-append}
+use lib.ListN.{drop, List·getD-append}
 use Rattle.jp2_cio.proofs.Rows.{Says, row}
 use Rattle.jp2_record.specs.declared.Span.{Span}
 use Rattle.jp2_order.specs.Definitions.{definitions}
@@ -14,7 +14,6 @@ use Rattle.jp2_order.specs.Flat.{flat}
 use Rattle.jp2_order.proofs.Flats.{flat-length, flat-at}
 use Rattle.jp2_order.proofs.Alike.{arranged-alike}
 use Rattle.jp2_cdef.specs.Flat.{numberOf, outside, reordered, afterwards}
-use Rattle.jp2_reorder.specs.declared.Comp.{Comp}
 use Rattle.jp2_reorder.specs.Comps.{numbered}
 use Rattle.jp2_reorder.specs.Agree.{RecordByRecord}
 use Rattle.jp2_reorder.proofs.Numbered.{numbered-at}

@@ -1,14 +1,13 @@
 -- What each return of the function `decide` asks.
 -- Assumes nothing.
 use Prim.Native.Nat.{ℕ, _+_, _-_, _*_, _≤_, _<_}
-use mathlib.Core.Path.{_≡_, refl, ap, sym, _∙_, subst}
+use mathlib.Core.Path.{_≡_, refl, ap, sym, _∙_}
 use mathlib.Core.Bool.{true, false}
 use mathlib.Core.List.{List}
 use native.Mathlib.Omega.{arith}
 use lib.ListN.{length, getD, set, replicate, length-replicate}
 use Rattle.jp2_order.specs.Definitions.{def}
-use Rattle.jp2_order.specs.Order.{define}
-use Rattle.jp2_cdef.specs.Steps.{Room, Agree}
+use Rattle.jp2_cdef.specs.Steps.{Room}
 use Rattle.jp2_cdef.proofs.Agreement.{room-swap}
 use Rattle.jp2_cdef.proofs.Defining as D
 use Rattle.jp2_reorder.specs.Comps.{none, numbered, swapped, asked}

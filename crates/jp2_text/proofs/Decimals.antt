@@ -1,11 +1,11 @@
 -- The fewest digits that hold a number are its digits.
 -- Assumes nothing.
-use Prim.Native.Nat.{ℕ, zero, suc, _+_, _-_, _*_, _/_, _%_, _^_, _≤_, _<_}
+use Prim.Native.Nat.{ℕ, zero, suc, _+_, _-_, _/_, _%_, _^_, _≤_, _<_}
 use native.Mathlib.Omega.{arith}
 use native.Mathlib.Nat.{pow-suc, one-le-pow}
 use borrow.Author.Tests.{lt-ltb}
-use mathlib.Core.Path.{_≡_, refl, sym, ap, ap₂, _∙_}
-use mathlib.Core.List.{List, [], _∷_, _++_}
+use mathlib.Core.Path.{_≡_, refl, ap, ap₂}
+use mathlib.Core.List.{[], _∷_, _++_}
 use Rattle.io.specs.Digits.{glyph, Fewest}
 use Rattle.io.specs.Digits as io
 use Rattle.jp2_cio.proofs.Rows.{row}

@@ -8,7 +8,7 @@ use borrow.Author.Tests.{ltb-true, ltb-false}
 use mathlib.Core.Path.{_≡_, refl, sym, ap, ap₂, _∙_}
 use mathlib.Core.List.{List, [], _∷_, _++_, append-nil, append-assoc}
 use lib.Dec.{ltb}
-use lib.ListN.{length, take, drop, set, length-append, length-take}
+use lib.ListN.{length, take, set, length-append, length-take}
 use lib.Seq.{take-all, take-append-le, take-append-add, take-nil, set-split}
 use Rattle.jp2_cio.specs.Number.{placed}
 use Rattle.jp2_cio.proofs.Rows.{either}

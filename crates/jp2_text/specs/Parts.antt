@@ -1,7 +1,7 @@
 -- What the private functions put: a letter of a shape, and what stands before a number.
 use Prim.Native.Nat.{ℕ, zero, suc}
 use mathlib.Core.List.{List, [], _∷_}
-use Rattle.jp2_cio.specs.Table.{_=?_, Rows, otherwise, _⇒_∣_, table}
+use Rattle.jp2_cio.specs.Table.{_=?_, otherwise, _⇒_∣_, table}
 use Rattle.jp2_text.specs.Text.{decimal}
 
 -- a letter of a shape, where some numbers are left

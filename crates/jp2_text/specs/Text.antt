@@ -2,7 +2,7 @@
 use Prim.Native.Nat.{ℕ, zero, suc, _+_, _-_, _/_, _%_}
 use mathlib.Core.List.{List, [], _∷_, _++_}
 use lib.ListN.{length, take}
-use Rattle.jp2_cio.specs.Table.{_=?_, _<?_, _and_, Rows, otherwise, _⇒_∣_, table}
+use Rattle.jp2_cio.specs.Table.{_=?_, _<?_, _and_, otherwise, _⇒_∣_, table}
 use Rattle.jp2_cio.specs.Number.{placed}
 
 -- d with xs from a place on, as much of it as has room

@@ -1,6 +1,6 @@
 // Text that is put together in a list that is lent, d. A function is given the place where the text goes, and answers the place after it.
 // What has no room in d is left out, so that nothing here can fail.
-ghost use Prim.Native.Nat.{_+_, _≤_};
+ghost use Prim.Native.Nat.{_+_};
 ghost use mathlib.Core.Path.{_≡_};
 ghost use mathlib.Core.List.{[], _∷_, _++_};
 ghost use lib.ListN.{length, drop};

@@ -2,7 +2,7 @@
 use Prim.Native.Nat.{ℕ, _+_}
 use mathlib.Core.List.{List}
 use lib.ListN.{length}
-use Rattle.jp2_cio.specs.Table.{Test, _<?_, flag, Rows, otherwise, _⇒_∣_, table}
+use Rattle.jp2_cio.specs.Table.{_<?_, flag, otherwise, _⇒_∣_, table}
 use Rattle.jp2_kind.specs.Kind.{isImageHeader}
 use Rattle.jp2_kind.specs.declared.Jp2BoxType.{Jp2BoxType}
 use Rattle.jp2_record.specs.declared.Jp2.{Jp2}

@@ -4,12 +4,12 @@ use mathlib.Core.Bool.{Bool, true, not, _&&_}
 use mathlib.Core.List.{List}
 use lib.Dec.{eqb}
 use lib.ListN.{length}
-use Rattle.jp2_cio.specs.Table.{Test, _=?_, _<?_, flag, Rows, otherwise, _⇒_∣_, table}
+use Rattle.jp2_cio.specs.Table.{_=?_, _<?_, flag, otherwise, _⇒_∣_, table}
 use Rattle.jp2_record.specs.declared.Jp2.{Jp2}
 use Rattle.jp2_record.specs.Record.{withState, withImgstate, withHasJp2h}
 use Rattle.jp2_record.specs.State.{fileTypeBit, withBit}
 use Rattle.jp2_record.specs.Answer.{Result, accepted, refused, andThen}
-use Rattle.jp2_walk.specs.Split.{Box, Boxes, noBytes, cut, highWord, toEnd, short, past, _▸_, boxes}
+use Rattle.jp2_walk.specs.Split.{Boxes, noBytes, cut, highWord, toEnd, short, past, _▸_, boxes}
 use Rattle.jp2_walk.specs.Child.{child}
 
 -- the boxes in order, up to the first that is turned down: a box whose header is no header of a child (10), or whose length is below its header's or past jp2h (11)

@@ -3,7 +3,7 @@ use Prim.Native.Nat.{ℕ, zero, suc, _+_}
 use mathlib.Core.List.{List}
 use lib.ListN.{length, drop}
 use Rattle.jp2_cio.specs.Number.{part}
-use Rattle.jp2_cio.specs.Table.{Test, _=?_, _<?_, Rows, otherwise, _⇒_∣_, table}
+use Rattle.jp2_cio.specs.Table.{_=?_, _<?_, otherwise, _⇒_∣_, table}
 use Rattle.jp2_box.specs.Box.{LBox, TBox, headerLength, boxLength}
 
 infixr 60 _▸_

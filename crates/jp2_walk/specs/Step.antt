@@ -4,7 +4,7 @@ use mathlib.Core.Bool.{Bool, true, false}
 use mathlib.Core.List.{List}
 use lib.ListN.{length}
 use Rattle.jp2_cio.specs.Number.{part}
-use Rattle.jp2_cio.specs.Table.{Test, _=?_, _≠?_, _<?_, flag, _or_, Rows, otherwise, _⇒_∣_, table}
+use Rattle.jp2_cio.specs.Table.{_=?_, _≠?_, _<?_, flag, _or_, otherwise, _⇒_∣_, table}
 use Rattle.jp2_kind.specs.Kind.{kindOf}
 use Rattle.jp2_box.specs.Box.{LBox, TBox, headerLength, boxLength}
 use Rattle.jp2_kind.specs.declared.Jp2BoxType.{Jp2BoxType}

@@ -4,7 +4,7 @@ use Prim.Native.Nat.{ℕ}
 use native.Mathlib.Omega.{arith}
 use types.Run.{OneOf, miss}
 use denote.Enum.Declared.{tagOf}
-use mathlib.Core.Path.{_≡_, refl, sym, ap, _∙_}
+use mathlib.Core.Path.{_≡_, refl}
 use mathlib.Core.List.{List, [], _∷_, _++_}
 use lib.IntN.{ℤ}
 use lib.ListN.{length, drop}
@@ -27,7 +27,7 @@ use Rattle.jp2_finish.specs.declared.Finished.the-variants.{Planes, Refused}
 use Rattle.jp2_finish.specs.Answers.{answered, recordsAfter, samplesAfter}
 use Rattle.jp2_picture.specs.Met.{Met, direct, directPlanes, paletted, palettedPlanes}
 use Rattle.jp2_picture.proofs.Mets.{direct-met, palette-met}
-use Rattle.jp2_whole.specs.Whole.{thenFinish, pictured, PictureRight, PictureFilled, Speaks}
+use Rattle.jp2_whole.specs.Whole.{pictured, PictureRight, PictureFilled, Speaks}
 
 -- the cases of an answer that refuse nothing: codestream and ended
 abbrev pub reads : List ℕ

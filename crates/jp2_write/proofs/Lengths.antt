@@ -10,8 +10,8 @@ use Rattle.jp2_cio.specs.Number.{bytes}
 use Rattle.jp2_cio.proofs.Bytes.{length-bytes}
 use Rattle.jp2_cio.specs.Table.{_=?_, _≠?_, otherwise, _⇒_∣_}
 use Rattle.jp2_cio.proofs.Rows.{Says, row, each}
-use Rattle.jp2_written.proofs.Splitting.{length-header, length-box}
-use Rattle.jp2_written.specs.Box.{boxHeader, box, series}
+use Rattle.jp2_written.proofs.Splitting.{length-box}
+use Rattle.jp2_written.specs.Box.{box, series}
 use Rattle.jp2_written.specs.Setup.{BR, MinV, CL}
 use Rattle.jp2_written.specs.Signature.{signature}
 use Rattle.jp2_written.specs.FileType.{fileType}

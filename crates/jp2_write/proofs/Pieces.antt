@@ -3,7 +3,7 @@
 use Prim.Native.Nat.{ℕ, _+_, _≤_}
 use mathlib.Core.Path.{_≡_, ap}
 use mathlib.Core.List.{List, _++_, append-assoc}
-use lib.ListN.{length, length-append}
+use lib.ListN.{length}
 use Rattle.jp2_cio.specs.Number.{bytes}
 use Rattle.jp2_cio.proofs.Bytes.{length-bytes}
 use Rattle.jp2_cio.proofs.Pieces.{Put, Puts, piece}

@@ -1,8 +1,8 @@
 -- The rows of writing once the fields are set up: what each answer means for the destination.
 -- Assumes nothing.
-use Prim.Native.Nat.{ℕ, _+_, _≤_, _<_}
+use Prim.Native.Nat.{ℕ, _≤_, _<_}
 use native.Mathlib.Omega.{arith}
-use mathlib.Core.Path.{_≡_, refl, sym, ap, _∙_}
+use mathlib.Core.Path.{_≡_, refl, sym, _∙_}
 use mathlib.Core.Bool.{Bool, true, false, not}
 use mathlib.Core.List.{List, _++_}
 use lib.ListN.{length, length-append}
@@ -11,15 +11,12 @@ use Rattle.jp2_cio.specs.Number.{placed}
 use Rattle.jp2_cio.specs.Table.{_=?_, _≠?_, _<?_, _or_, _and_, holds}
 use Rattle.jp2_cio.proofs.Rows.{Says, said, row}
 use Rattle.jp2_written.proofs.Splitting.{length-header, length-box}
-use Rattle.jp2_written.specs.Box.{boxHeader}
-use Rattle.jp2_written.specs.Signature.{signature}
-use Rattle.jp2_written.specs.FileType.{fileType}
 use Rattle.jp2_written.specs.Writing.{Writing, written, declined, destination}
 use Rattle.jp2_setup.specs.declared.Fields.{Fields}
 use Rattle.jp2_write.specs.declared.Written.{Written}
 use Rattle.jp2_write.specs.declared.Written.the-variants.{Bytes, Refused}
 use Rattle.jp2_write.specs.Answers.{answered}
-use Rattle.jp2_write.specs.Parts.{ihdrOf, bpccOf, colrOf, cdefOf, jp2hOf, frontOf, frontLength, ready}
+use Rattle.jp2_write.specs.Parts.{ihdrOf, bpccOf, colrOf, cdefOf, frontOf, frontLength, ready}
 use Rattle.jp2_write.proofs.Lengths.{jp2h-length, signature-length, fileType-length}
 
 -- what a writing answers, and the destination after it

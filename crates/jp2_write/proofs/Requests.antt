@@ -15,12 +15,11 @@ use Rattle.jp2_written.specs.Setup.{BPCi, BPC, METH, EnumCS, colours, marks, N,
 use Rattle.jp2_written.specs.Bpcc.{bpcc}
 use Rattle.jp2_written.specs.Colr.{specification}
 use Rattle.jp2_written.specs.Cdef.{cdef}
-use Rattle.jp2_written.specs.Writing.{Writing, declined, ill, front, write}
+use Rattle.jp2_written.specs.Writing.{declined, ill, front, write}
 use Rattle.jp2_setup.specs.declared.Fields.{Fields}
 use Rattle.jp2_setup.specs.declared.Encoder.{Encoder}
 use Rattle.jp2_setup.specs.declared.Encoder.the-variants.{Ready, Refused}
 use Rattle.jp2_setup.specs.Encoder.{request, fields, setUp}
-use Rattle.jp2_setup.specs.Parts.{listed}
 use Rattle.jp2_write.specs.Parts.{bpccOf, specificationOf, definitionOf, cdefOf, frontOf, Sound, ready}
 
 module _ (comps : List ℕ) (count x0 y0 x1 y1 space : ℕ) (profile : List ℕ) (codestream room : ℕ) where

@@ -1,8 +1,8 @@
 -- Each row of the table of writing names a number from 29 to 34.
 -- Assumes nothing.
-use Prim.Native.Nat.{ℕ, _≤_}
+use Prim.Native.Nat.{_≤_}
 use native.Mathlib.Omega.{arith}
-use mathlib.Core.Path.{_≡_, subst}
+use mathlib.Core.Path.{subst}
 use Rattle.jp2_cio.proofs.Rows.{each}
 use Rattle.jp2_written.specs.Request.{Request}
 use Rattle.jp2_written.specs.Writing.{Writing, written, declined, write}

@@ -1,9 +1,8 @@
 -- `jp2_again::finish_reading` meets its contract.
 -- Assumes nothing.
 use native.Mathlib.Omega.{arith}
-use mathlib.Core.Path.{_≡_, sym, ap, _∙_}
+use mathlib.Core.Path.{sym, ap, _∙_}
 use mathlib.Core.Bool.{true, false}
-use lib.ListN.{getD, length}
 use Rattle.jp2_cio.proofs.Rows.{said}
 use Rattle.jp2_record.specs.declared.Jp2.{Jp2}
 use Rattle.jp2_picture.specs.Finish.{Finishing, finish}

@@ -1,7 +1,6 @@
 -- `jp2_back::write_and_read` meets its contract.
 -- Assumes nothing.
 use native.Mathlib.Omega.{arith}
-use mathlib.Core.Path.{_≡_}
 use lib.ListN.{length}
 use Rattle.jp2_written.specs.Request.{asked}
 use Rattle.jp2_back.proofs.Backs.{part-is, comes-back}

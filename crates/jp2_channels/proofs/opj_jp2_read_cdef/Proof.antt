@@ -1,7 +1,7 @@
 -- `jp2_channels::opj_jp2_read_cdef` meets its contract.
 -- Assumes nothing.
 use native.Mathlib.Omega.{arith}
-use mathlib.Core.Path.{_≡_, refl}
+use mathlib.Core.Path.{refl}
 use Rattle.jp2_cio.proofs.Rows.{row}
 use Rattle.jp2_record.proofs.Told.{told, success}
 use Rattle.jp2_channels.specs.Cdef.{cdef}

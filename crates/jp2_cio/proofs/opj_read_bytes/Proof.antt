@@ -1,7 +1,7 @@
 -- `jp2_cio::opj_read_bytes` meets its contract.
 -- Assumes nothing.
 use Rattle.jp2_cio.specs.Number.{number}
-use mathlib.Core.Path.{refl, sym, ap, _∙_}
+use mathlib.Core.Path.{refl, sym}
 use native.Mathlib.Omega.{arith}
 use Rattle.jp2_cio.proofs.Numbers.{number-suc, number-past, number-narrow, number-wide}
 use borrow.Author.Needs.{needs}

@@ -1,9 +1,8 @@
 -- `jp2_colour::read_lab` meets its contract.
 -- Assumes nothing.
 use native.Mathlib.Omega.{arith}
-use mathlib.Core.Path.{_≡_, refl}
+use mathlib.Core.Path.{refl}
 use Rattle.jp2_cio.proofs.Rows.{row}
-use Rattle.jp2_record.proofs.Told.{told, success}
 use Rattle.jp2_colour.specs.Colr.{lab}
 use borrow.Author.Needs.{needs}
 use Rattle.jp2_colour.proofs.read_lab.Statement.{statement}

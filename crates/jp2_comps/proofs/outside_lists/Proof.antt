@@ -2,7 +2,7 @@
 -- Assumes nothing.
 use native.Mathlib.Omega.{arith}
 use borrow.Author.Needs.{needs}
-use mathlib.Core.Bool.{true, false}
+use mathlib.Core.Bool.{true}
 use Rattle.jp2_picture.specs.Image.{image}
 use Rattle.jp2_cio.specs.Table.{_<?_}
 use Rattle.jp2_picture.specs.Finish.{outsideLists}

@@ -2,8 +2,8 @@
 -- Assumes nothing.
 use native.Mathlib.Omega.{arith}
 use borrow.Author.Needs.{needs}
-use mathlib.Core.Path.{sym, ap₂, _∙_}
 use Prim.Native.Nat.{_*_}
+use mathlib.Core.Path.{ap₂, _∙_}
 use Rattle.jp2_comps.proofs.Planes.{area-most, size-none, size-area}
 use Rattle.jp2_comps.proofs.size.Statement.{statement}
 use Rattle.jp2_comps.proofs.size.Tie as tie

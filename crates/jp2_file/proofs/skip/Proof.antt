@@ -1,6 +1,5 @@
 -- `jp2_file::skip` meets its contract.
 -- Assumes nothing.
-use native.Mathlib.Omega.{arith}
 use Rattle.jp2_record.proofs.Told.{success}
 use borrow.Author.Needs.{needs}
 use Rattle.jp2_file.proofs.skip.Statement.{statement}

@@ -1,6 +1,5 @@
 -- `jp2_finish::opj_jp2_apply_color_postprocessing` meets its contract.
 -- Assumes nothing.
-use native.Mathlib.Omega.{arith}
 use borrow.Author.Needs.{needs}
 use mathlib.Core.Path.{refl, sym, _∙_}
 use mathlib.Core.Bool.{true, false}

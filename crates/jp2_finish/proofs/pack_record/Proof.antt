@@ -10,7 +10,8 @@ use Rattle.jp2_record.specs.declared.Palette.{Palette}
 use Rattle.jp2_order.proofs.Flats.{flat-length, flat-number}
 use Rattle.jp2_cio.specs.Number.{placed}
 use Rattle.jp2_cio.proofs.Placing.{Placing, placing-none, placing-more, placing-all}
-use Rattle.jp2_finish.specs.Parts.{expandedAt, recordAt}
+use Rattle.jp2_expand.specs.Channel.{expandedAt}
+use Rattle.jp2_finish.specs.Parts.{recordAt}
 use Rattle.jp2_finish.proofs.pack_record.Statement.{statement}
 use Rattle.jp2_finish.proofs.pack_record.Tie as tie
 

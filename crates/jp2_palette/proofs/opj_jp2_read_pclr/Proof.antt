@@ -2,7 +2,7 @@
 -- Assumes nothing.
 use Rattle.jp2_palette.proofs.Entries.{rows-most, rows-same}
 use native.Mathlib.Omega.{arith}
-use mathlib.Core.Path.{_≡_, refl}
+use mathlib.Core.Path.{refl}
 use Rattle.jp2_cio.proofs.Rows.{row}
 use Rattle.jp2_record.proofs.Told.{told, success}
 use Rattle.jp2_palette.specs.Pclr.{pclr}

@@ -1,6 +1,6 @@
 -- `jp2_reorder::mark_if` meets its contract: a walk of its MIR, by hand. Element i is read whole, put through a covered function, and stored whole. What is passed beside the slice is let go of at exit (`stay-dropped`).
 -- No line names a field of a component; 52 is its size in bytes. Assumes nothing.
-use mathlib.Core.Path.{_≡_, refl, sym, _∙_, ap, subst}
+use mathlib.Core.Path.{_≡_, refl, sym, ap, subst}
 use mathlib.Core.Bool.{Bool}
 use Prim.Native.Nat.{ℕ, _<_, _^_, _*_}
 use native.Mathlib.Omega.{arith}

@@ -39,7 +39,7 @@ use denote.Triple.Spec.{Meets, tripleOf}
 use denote.Triple.Table.{entered}
 use denote.Triple.Walked.{says, needs, Stays, stay-slice, stay-none, walkOf, AllGo, goes-slice, goes-none, Walks, ends-at, walked, walk-meets}
 use denote.Exit.{yes}
-use Rattle.jp2_reorder.specs.Comps.{none, swapped}
+use Rattle.jp2_reorder.specs.Comps.{none}
 use Rattle.jp2_reorder.specs.declared.Comp.{Comp}
 use Rattle.jp2_reorder.proofs.Comp as T
 use Rattle.jp2_reorder.proofs.Comp.Laws as T′

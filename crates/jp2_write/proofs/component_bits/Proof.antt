@@ -1,6 +1,5 @@
 -- `jp2_write::component_bits` meets its contract.
 -- Assumes nothing.
-use native.Mathlib.Omega.{arith}
 use Prim.Native.Nat.{_+_, _-_, _*_}
 use mathlib.Core.Path.{ap₂}
 use Rattle.jp2_written.specs.Setup.{BPCi}

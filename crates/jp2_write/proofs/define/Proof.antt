@@ -2,12 +2,10 @@
 -- Assumes nothing.
 use native.Mathlib.Omega.{arith}
 use mathlib.Core.Path.{refl}
-use Prim.Native.Nat.{_+_}
 use mathlib.Core.Path.{ap, _∙_}
 use Rattle.jp2_cio.proofs.Rows.{row}
 use Rattle.jp2_written.specs.Cdef as cdef
 use Rattle.jp2_cio.specs.Number.{placed}
-use Rattle.jp2_order.specs.Definitions.{def}
 use Rattle.jp2_write.specs.Parts.{definitionOf}
 use borrow.Author.Needs.{needs}
 use Rattle.jp2_write.proofs.define.Statement.{statement}

@@ -2,7 +2,7 @@
 -- Assumes nothing.
 use native.Mathlib.Omega.{arith}
 use mathlib.Core.Path.{sym}
-use mathlib.Core.Bool.{true, false}
+use mathlib.Core.Bool.{false}
 use Rattle.jp2_cio.specs.Table.{_≠?_, _and_}
 use Rattle.jp2_cio.proofs.Rows.{shown}
 use Rattle.jp2_comps.proofs.Answers.{same}

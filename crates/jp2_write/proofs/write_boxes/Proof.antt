@@ -1,10 +1,8 @@
 -- `jp2_write::write_boxes` meets its contract.
 -- Assumes nothing.
-use mathlib.Core.Path.{_∙_, ap}
 use lib.ListN.{length}
-use Rattle.jp2_written.specs.Writing.{write, destination}
+use Rattle.jp2_written.specs.Writing.{write}
 use Rattle.jp2_written.specs.Request.{asked}
-use Rattle.jp2_write.specs.Answers.{answered}
 use Rattle.jp2_write.proofs.Readies.{declined-done}
 use Rattle.jp2_write.proofs.Requests.{setup-refused, setup-ready}
 use borrow.Author.Needs.{needs}

@@ -1,11 +1,11 @@
--- `jp2_finish::counted` meets its contract.
+-- `jp2_expand::counted` meets its contract.
 -- Assumes nothing.
 use native.Mathlib.Omega.{arith}
 use mathlib.Core.Path.{refl}
 use Rattle.jp2_cio.proofs.Rows.{row}
 use Rattle.jp2_picture.specs.Finish.{counted}
-use Rattle.jp2_finish.proofs.counted.Statement.{statement}
-use Rattle.jp2_finish.proofs.counted.Tie as tie
+use Rattle.jp2_expand.proofs.counted.Statement.{statement}
+use Rattle.jp2_expand.proofs.counted.Tie as tie
 
 returns : tie.Need-returns
 unfolding counted

@@ -1,4 +1,4 @@
--- `jp2_finish::type_of` meets its contract.
+-- `jp2_expand::type_of` meets its contract.
 -- Assumes nothing.
 use Prim.Native.Nat.{_+_, _*_}
 use native.Mathlib.Omega.{arith}
@@ -7,9 +7,9 @@ use mathlib.Core.Path.{_≡_, refl, ap, _∙_}
 use Rattle.jp2_cio.specs.Number.{number}
 use Rattle.jp2_cio.proofs.Rows.{row}
 use Rattle.jp2_picture.proofs.Rests.{rest-number}
-use Rattle.jp2_finish.specs.Parts.{typeAt}
-use Rattle.jp2_finish.proofs.type_of.Statement.{statement}
-use Rattle.jp2_finish.proofs.type_of.Tie as tie
+use Rattle.jp2_expand.specs.Channel.{typeAt}
+use Rattle.jp2_expand.proofs.type_of.Statement.{statement}
+use Rattle.jp2_expand.proofs.type_of.Tie as tie
 
 returns : tie.Need-returns
 unfolding typeAt

@@ -1,4 +1,4 @@
--- `jp2_finish::expanded_number` meets its contract.
+-- `jp2_expand::expanded_number` meets its contract.
 -- Assumes nothing.
 use Prim.Native.Nat.{ℕ}
 use native.Mathlib.Omega.{arith}
@@ -11,9 +11,9 @@ use Rattle.jp2_cio.proofs.Rows.{row}
 use Rattle.jp2_record.specs.declared.Palette.{Palette}
 use Rattle.jp2_palette.specs.Pclr.{depth, sign, B}
 use Rattle.jp2_picture.proofs.Rests.{rest-number}
-use Rattle.jp2_finish.specs.Parts.{expandedAt}
-use Rattle.jp2_finish.proofs.expanded_number.Statement.{statement}
-use Rattle.jp2_finish.proofs.expanded_number.Tie as tie
+use Rattle.jp2_expand.specs.Channel.{expandedAt}
+use Rattle.jp2_expand.proofs.expanded_number.Statement.{statement}
+use Rattle.jp2_expand.proofs.expanded_number.Tie as tie
 
 -- a column's byte, read from the palette's place on
 column-byte : (f : List ℕ) (p : Palette) (c : ℕ) {s : List ℕ} {b : ℕ} → s ≡ part f (p .place) (length f) → b ≡ number s c 1 → b ≡ B f p c
