@@ -8,6 +8,8 @@ use types.Run.{OneOf, miss}
 use denote.Enum.Declared.{tagOf}
 use lib.ListN.{length}
 use Rattle.jp2_cio.specs.Number.{number}
+use Rattle.jp2_kind.specs.Kind.{kindOf}
+use Rattle.jp2_kind.specs.declared.Jp2BoxType.{Jp2BoxType}
 use Rattle.jp2_box.specs.Box.{LBox, headerLength, boxLength, headerOf, header, childHeader}
 use Rattle.jp2_box.specs.declared.Jp2BoxHeader.{Jp2BoxHeader}
 use Rattle.jp2_box.specs.declared.ReadHeader.{ReadHeader}
@@ -39,6 +41,10 @@ module _ (c : List ℕ) where
   pub box-plain : (LBox c ≡ 0 → ⊥) → (LBox c ≡ 1 → ⊥) → boxLength c ≡ LBox c
   unfolding boxLength
   box-plain h k = sym (row 2 _ (omega arith) refl)
+
+  -- a header of three fields that are those of the bytes
+  pub header-made : {l h n : ℕ} {t : Jp2BoxType} → l ≡ boxLength c → n ≡ number c 4 4 → t ≡ kindOf n → h ≡ headerLength c → Header (record { length = l; ty = t; «header_length» = h }) ≡ Header (headerOf c)
+  header-made p q r o = cc
 
 -- a header that was found at c, and lies in it
 pub record Headed (c : List ℕ) (h : Jp2BoxHeader) : Type 0 where

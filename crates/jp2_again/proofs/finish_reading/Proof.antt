@@ -15,7 +15,7 @@ use Rattle.jp2_again.proofs.finish_reading.Statement.{statement}
 use Rattle.jp2_again.proofs.finish_reading.Tie as tie
 
 no-reading-requires : tie.Need-no-reading-requires
-no-reading-requires c κs = search needs
+no-reading-requires c κs = tt
 
 returns : tie.Need-returns
 returns c = let a = c .before .before .before .before .before .before .args in let h = handed (a .file .now) (a .ignore) (a .comps .now) (a .count) (a .samples .now) (a .records .now) (a .planes .now) in declines h (a .reading .now) (a .records .now) (a .planes .now) (none h (a .reading .now) (said true (noReading (a .reading .now)) (sym (c .before .no-reading .ensures) ∙ c .if1 .taken)))
@@ -39,7 +39,7 @@ record-of-requires : tie.Need-record-of-requires
 record-of-requires c κs = let a = c .before .before .before .before .before .before .before .before .args in taken (a .reading .now) (said false (noReading (a .reading .now)) (sym (c .before .before .before .no-reading .ensures) ∙ c .before .before .if1 .left))
 
 opj-jp2-apply-color-postprocessing-requires : tie.Need-opj-jp2-apply-color-postprocessing-requires
-opj-jp2-apply-color-postprocessing-requires c κs = search needs
+opj-jp2-apply-color-postprocessing-requires c κs = tt
 
 same-length : tie.Need-same-length
 same-length c = search needs

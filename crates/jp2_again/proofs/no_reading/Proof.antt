@@ -26,7 +26,7 @@ shared-slice-read-misnumbered-2 : tie.Need-shared-slice-read-misnumbered-2
 shared-slice-read-misnumbered-2 c = search needs
 
 misnumbered-requires : tie.Need-misnumbered-requires
-misnumbered-requires c κs = search needs
+misnumbered-requires c κs = tt
 
 returns-3 : tie.Need-returns-3
 returns-3 c = let a = c .before .before .before .before .before .before .before .before .args in let xs = a .xs .now in sym (shown true (noReading xs) (λ long low right. absurd (not-both (misnumberedAs (getD xs 0 0) (getD xs 1 0)) (said true (misnumberedAs (getD xs 0 0) (getD xs 1 0)) (sym (c .before .misnumbered .ensures) ∙ c .if3 .taken)) right)))

@@ -6,7 +6,7 @@ use Rattle.jp2_again.proofs.record_of.Statement.{statement}
 use Rattle.jp2_again.proofs.record_of.Tie as tie
 
 opj-jp2-create-requires : tie.Need-opj-jp2-create-requires
-opj-jp2-create-requires c κs = search needs
+opj-jp2-create-requires c κs = tt
 
 shared-slice-read-t8 : tie.Need-shared-slice-read-t8
 shared-slice-read-t8 c = search needs

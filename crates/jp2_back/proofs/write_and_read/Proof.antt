@@ -9,19 +9,19 @@ use Rattle.jp2_back.proofs.write_and_read.Statement.{statement}
 use Rattle.jp2_back.proofs.write_and_read.Tie as tie
 
 write-boxes-requires : tie.Need-write-boxes-requires
-write-boxes-requires c κs = search needs
+write-boxes-requires c κs = tt
 
 bytes-of-requires : tie.Need-bytes-of-requires
-bytes-of-requires c κs = search needs
+bytes-of-requires c κs = tt
 
 cast-n : tie.Need-cast-n
 cast-n c = search needs
 
 part-requires : tie.Need-part-requires
-part-requires c κs = search needs
+part-requires c κs = tt
 
 read-file-requires : tie.Need-read-file-requires
-read-file-requires c κs = search needs
+read-file-requires c κs = tt
 
 same-length : tie.Need-same-length
 same-length c = search needs

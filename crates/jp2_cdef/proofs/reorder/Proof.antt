@@ -54,7 +54,7 @@ add-at : tie.Need-add-at Inv-loop μ-loop
 add-at c = search needs
 
 read-u16-requires : tie.Need-read-u16-requires Inv-loop μ-loop
-read-u16-requires c κs = search needs
+read-u16-requires c κs = tt
 
 cast-c : tie.Need-cast-c Inv-loop μ-loop
 cast-c c = search needs
@@ -63,7 +63,7 @@ add-read-u16 : tie.Need-add-read-u16 Inv-loop μ-loop
 add-read-u16 c = search needs
 
 read-u16-requires-2 : tie.Need-read-u16-requires-2 Inv-loop μ-loop
-read-u16-requires-2 c κs = search needs
+read-u16-requires-2 c κs = tt
 
 cast-typ : tie.Need-cast-typ Inv-loop μ-loop
 cast-typ c = search needs
@@ -72,7 +72,7 @@ add-read-u16-2 : tie.Need-add-read-u16-2 Inv-loop μ-loop
 add-read-u16-2 c = search needs
 
 read-u16-requires-3 : tie.Need-read-u16-requires-3 Inv-loop μ-loop
-read-u16-requires-3 c κs = search needs
+read-u16-requires-3 c κs = tt
 
 cast-asoc : tie.Need-cast-asoc Inv-loop μ-loop
 cast-asoc c = search needs

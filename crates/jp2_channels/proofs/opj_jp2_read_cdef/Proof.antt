@@ -10,27 +10,27 @@ use Rattle.jp2_channels.proofs.opj_jp2_read_cdef.Statement.{statement}
 use Rattle.jp2_channels.proofs.opj_jp2_read_cdef.Tie as tie
 
 refused-requires : tie.Need-refused-requires
-refused-requires c κs = search needs
+refused-requires c κs = tt
 
 returns : tie.Need-returns
 unfolding cdef
 returns c = told _ _ _ (c .refused .ensures) (row 0 _ (omega arith) refl)
 
 refused-requires-2 : tie.Need-refused-requires-2
-refused-requires-2 c κs = search needs
+refused-requires-2 c κs = tt
 
 returns-2 : tie.Need-returns-2
 unfolding cdef
 returns-2 c = told _ _ _ (c .refused2 .ensures) (row 1 _ (omega arith) refl)
 
 read-u16-requires : tie.Need-read-u16-requires
-read-u16-requires c κs = search needs
+read-u16-requires c κs = tt
 
 cast-n : tie.Need-cast-n
 cast-n c = search needs
 
 refused-requires-3 : tie.Need-refused-requires-3
-refused-requires-3 c κs = search needs
+refused-requires-3 c κs = tt
 
 returns-3 : tie.Need-returns-3
 unfolding cdef
@@ -43,7 +43,7 @@ add-if4 : tie.Need-add-if4
 add-if4 c = search needs
 
 refused-requires-4 : tie.Need-refused-requires-4
-refused-requires-4 c κs = search needs
+refused-requires-4 c κs = tt
 
 returns-4 : tie.Need-returns-4
 unfolding cdef
@@ -53,7 +53,7 @@ add-t12 : tie.Need-add-t12
 add-t12 c = search needs
 
 done-requires : tie.Need-done-requires
-done-requires c κs = search needs
+done-requires c κs = tt
 
 returns-5 : tie.Need-returns-5
 unfolding cdef

@@ -13,14 +13,14 @@ cast-columns : tie.Need-cast-columns
 cast-columns c = search needs
 
 refused-requires : tie.Need-refused-requires
-refused-requires c κs = search needs
+refused-requires c κs = tt
 
 returns : tie.Need-returns
 unfolding cmap
 returns c = told _ _ _ (c .refused .ensures) (row 0 _ (omega arith) refl)
 
 refused-requires-2 : tie.Need-refused-requires-2
-refused-requires-2 c κs = search needs
+refused-requires-2 c κs = tt
 
 returns-2 : tie.Need-returns-2
 unfolding cmap
@@ -30,14 +30,14 @@ mul-if3 : tie.Need-mul-if3
 mul-if3 c = search needs
 
 refused-requires-3 : tie.Need-refused-requires-3
-refused-requires-3 c κs = search needs
+refused-requires-3 c κs = tt
 
 returns-3 : tie.Need-returns-3
 unfolding cmap
 returns-3 c = told _ _ _ (c .refused3 .ensures) (row 2 _ (omega arith) refl)
 
 done-requires : tie.Need-done-requires
-done-requires c κs = search needs
+done-requires c κs = tt
 
 returns-4 : tie.Need-returns-4
 unfolding cmap

@@ -1,7 +1,6 @@
 -- `jp2_check::first_direct` meets its contract.
 -- Assumes nothing.
 use native.Mathlib.Omega.{arith}
-use borrow.Author.Needs.{needs}
 use Prim.Native.Nat.{ℕ, _-_, _≤_, _<_}
 use mathlib.Core.Bool.{false}
 use borrow.Author.Count.{below-more}
@@ -31,7 +30,7 @@ add-read-u8-2 : tie.Need-add-read-u8-2 Inv-loop μ-loop
 add-read-u8-2 c = omega (arith, c .before .before .before .pre (omega arith))
 
 read-u8-requires : tie.Need-read-u8-requires Inv-loop μ-loop
-read-u8-requires c κs = search needs
+read-u8-requires c κs = tt
 
 returns : tie.Need-returns Inv-loop μ-loop
 returns c = let a = c .before .before .before .before .before .args in let l = c .before .before .before .loop in lowest-first (direct (a .f .now) (a .l)) (l .c) (a .l .count) (l .inv .1) (omega arith) (omega arith)

@@ -16,7 +16,7 @@ add-at : tie.Need-add-at
 add-at c = search needs
 
 read-u16-requires : tie.Need-read-u16-requires
-read-u16-requires c κs = search needs
+read-u16-requires c κs = tt
 
 cast-component : tie.Need-cast-component
 cast-component c = search needs
@@ -25,13 +25,13 @@ add-read-u8 : tie.Need-add-read-u8
 add-read-u8 c = search needs
 
 read-u8-requires : tie.Need-read-u8-requires
-read-u8-requires c κs = search needs
+read-u8-requires c κs = tt
 
 add-read-u8-2 : tie.Need-add-read-u8-2
 add-read-u8-2 c = search needs
 
 read-u8-requires-2 : tie.Need-read-u8-requires-2
-read-u8-requires-2 c κs = search needs
+read-u8-requires-2 c κs = tt
 
 cast-pcol : tie.Need-cast-pcol
 cast-pcol c = search needs

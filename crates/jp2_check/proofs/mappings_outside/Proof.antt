@@ -22,7 +22,7 @@ mul-outside : tie.Need-mul-outside
 mul-outside c = search needs
 
 outside-requires : tie.Need-outside-requires
-outside-requires c κs = search needs
+outside-requires c κs = tt
 
 returns-3 : tie.Need-returns-3
 returns-3 c = let a = c .before .before .before .before .args in c .outside .ensures ∙ same (length (a .f .now) <? a .l .place + 4 * a .l .count) (mappingsOutside (c .before .before .before .before .args .f .now) (c .before .before .before .before .args .l) (c .before .before .before .before .args .columns)) (λ h. omega arith) (λ h. omega arith)

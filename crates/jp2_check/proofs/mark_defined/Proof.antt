@@ -1,7 +1,6 @@
 -- `jp2_check::mark_defined` meets its contract.
 -- Assumes nothing.
 use native.Mathlib.Omega.{arith}
-use borrow.Author.Needs.{needs}
 use Prim.Native.Nat.{ℕ, _-_, _≤_, _<_}
 use mathlib.Core.Path.{_≡_, refl, _∙_}
 use lib.ListN.{length, getD, length-set}
@@ -27,7 +26,7 @@ add-read-u16 : tie.Need-add-read-u16 Inv-loop μ-loop
 add-read-u16 c = omega (arith, c .before .before .before .before .pre .inside (omega arith))
 
 read-u16-requires : tie.Need-read-u16-requires Inv-loop μ-loop
-read-u16-requires c κs = search needs
+read-u16-requires c κs = tt
 
 cast-channel : tie.Need-cast-channel Inv-loop μ-loop
 cast-channel c = omega arith

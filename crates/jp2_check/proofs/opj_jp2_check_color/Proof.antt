@@ -1,7 +1,6 @@
 -- `jp2_check::opj_jp2_check_color` meets its contract.
 -- Assumes nothing.
 use native.Mathlib.Omega.{arith}
-use borrow.Author.Needs.{needs}
 use Rattle.jp2_check.proofs.Held.{definitions-inside, definitions-few, mappings-inside, mappings-few, all-named, answer-many, answer-outside, answer-25, answer-26, answer-27, answer-passed}
 use Rattle.jp2_check.proofs.opj_jp2_check_color.Statement.{statement}
 use Rattle.jp2_check.proofs.opj_jp2_check_color.Tie as tie
@@ -10,13 +9,13 @@ returns : tie.Need-returns
 returns c = let a = c .before .before .before .args in answer-many (a .f .now) (a .m) (a .n) (omega arith)
 
 outside-file-requires : tie.Need-outside-file-requires
-outside-file-requires c κs = search needs
+outside-file-requires c κs = tt
 
 returns-2 : tie.Need-returns-2
 returns-2 c = let a = c .before .before .before .before .before .args in answer-outside (a .f .now) (a .m) (a .n) (c .before .outside-file .ensures) (c .if2 .taken)
 
 channel-count-requires : tie.Need-channel-count-requires
-channel-count-requires c κs = search needs
+channel-count-requires c κs = tt
 
 first-misnamed-requires : tie.Need-first-misnamed-requires
 first-misnamed-requires c κs = let a = c .before .before .before .before .before .before .args in definitions-inside (a .f .now) (a .m) (c .before .before .outside-file .ensures) (c .before .if2 .left)

@@ -33,13 +33,13 @@ returns-4 : tie.Need-returns-4
 returns-4 c = let a = c .before .before .before .before .before .before .before .args in shown true (paletteOutside (a .f .now) (a .p)) (omega arith)
 
 part-requires : tie.Need-part-requires
-part-requires c κs = search needs
+part-requires c κs = tt
 
 cast-row-bytes : tie.Need-cast-row-bytes
 cast-row-bytes c = search needs
 
 row-bytes-requires : tie.Need-row-bytes-requires
-row-bytes-requires c κs = search needs
+row-bytes-requires c κs = tt
 
 mul-outside : tie.Need-mul-outside
 mul-outside c = omega (arith, rows-most _ _ _ (c .before .before .before .before .before .before .before .before .before .args .p .entries) (omega arith) (omega arith) (c .row-bytes .ensures))
@@ -48,7 +48,7 @@ add-outside : tie.Need-add-outside
 add-outside c = omega (arith, rows-most _ _ _ (c .before .before .before .before .before .before .before .before .before .args .p .entries) (omega arith) (omega arith) (c .row-bytes .ensures))
 
 outside-requires : tie.Need-outside-requires
-outside-requires c κs = search needs
+outside-requires c κs = tt
 
 returns-5 : tie.Need-returns-5
 returns-5 c = let a = c .before .before .before .before .before .before .before .before .before .before .args in let e = rows-file (a .f .now) (a .p .place) (a .p .columns) (a .p .entries) (c .before .before .part .ensures) (c .before .row-bytes .ensures) in c .outside .ensures ∙ same (length (a .f .now) <? a .p .place + (a .p .columns + a .p .entries * c .before .row-bytes .result)) (paletteOutside (c .before .before .before .before .before .before .before .before .before .before .args .f .now) (c .before .before .before .before .before .before .before .before .before .before .args .p)) (λ h. omega arith) (λ h. omega arith)

@@ -12,19 +12,19 @@ returns : tie.Need-returns
 returns c = sym (number-past _ _ _ (c .if1 .taken))
 
 read-u8-requires : tie.Need-read-u8-requires
-read-u8-requires c κs = search needs
+read-u8-requires c κs = tt
 
 cast-result : tie.Need-cast-result
 cast-result c = search needs
 
 read-u16-requires : tie.Need-read-u16-requires
-read-u16-requires c κs = search needs
+read-u16-requires c κs = tt
 
 cast-result-2 : tie.Need-cast-result-2
 cast-result-2 c = search needs
 
 read-u16-requires-2 : tie.Need-read-u16-requires-2
-read-u16-requires-2 c κs = search needs
+read-u16-requires-2 c κs = tt
 
 cast-result-3 : tie.Need-cast-result-3
 cast-result-3 c = search needs
@@ -36,7 +36,7 @@ add-read-u8 : tie.Need-add-read-u8
 add-read-u8 c = search needs
 
 read-u8-requires-2 : tie.Need-read-u8-requires-2
-read-u8-requires-2 c κs = search needs
+read-u8-requires-2 c κs = tt
 
 cast-result-4 : tie.Need-cast-result-4
 cast-result-4 c = search needs
@@ -45,7 +45,7 @@ add-result : tie.Need-add-result
 add-result c = search needs
 
 read-u32-requires : tie.Need-read-u32-requires
-read-u32-requires c κs = search needs
+read-u32-requires c κs = tt
 
 returns-2 : tie.Need-returns-2
 unfolding number

@@ -11,7 +11,7 @@ returns : tie.Need-returns
 returns c = sym (number-past _ _ 4 (c .if1 .taken))
 
 read-u8-requires : tie.Need-read-u8-requires
-read-u8-requires c κs = search needs
+read-u8-requires c κs = tt
 
 cast-result : tie.Need-cast-result
 cast-result c = search needs
@@ -23,7 +23,7 @@ add-read-u8 : tie.Need-add-read-u8
 add-read-u8 c = search needs
 
 read-u8-requires-2 : tie.Need-read-u8-requires-2
-read-u8-requires-2 c κs = search needs
+read-u8-requires-2 c κs = tt
 
 cast-result-2 : tie.Need-cast-result-2
 cast-result-2 c = search needs
@@ -38,7 +38,7 @@ add-read-u8-2 : tie.Need-add-read-u8-2
 add-read-u8-2 c = search needs
 
 read-u8-requires-3 : tie.Need-read-u8-requires-3
-read-u8-requires-3 c κs = search needs
+read-u8-requires-3 c κs = tt
 
 cast-result-3 : tie.Need-cast-result-3
 cast-result-3 c = search needs
@@ -53,7 +53,7 @@ add-read-u8-3 : tie.Need-add-read-u8-3
 add-read-u8-3 c = search needs
 
 read-u8-requires-4 : tie.Need-read-u8-requires-4
-read-u8-requires-4 c κs = search needs
+read-u8-requires-4 c κs = tt
 
 cast-result-4 : tie.Need-cast-result-4
 cast-result-4 c = search needs

@@ -10,59 +10,59 @@ use Rattle.jp2_colour.proofs.opj_jp2_read_colr.Statement.{statement}
 use Rattle.jp2_colour.proofs.opj_jp2_read_colr.Tie as tie
 
 refused-requires : tie.Need-refused-requires
-refused-requires c κs = search needs
+refused-requires c κs = tt
 
 returns : tie.Need-returns
 unfolding colr
 returns c = told _ _ _ (c .refused .ensures) (row 0 _ (omega arith) refl)
 
 done-requires : tie.Need-done-requires
-done-requires c κs = search needs
+done-requires c κs = tt
 
 returns-2 : tie.Need-returns-2
 unfolding colr
 returns-2 c = success _ _ _ (c .done .ensures) (row 1 _ (omega arith) refl)
 
 read-u8-requires : tie.Need-read-u8-requires
-read-u8-requires c κs = search needs
+read-u8-requires c κs = tt
 
 cast-colour : tie.Need-cast-colour
 cast-colour c = search needs
 
 read-u8-requires-2 : tie.Need-read-u8-requires-2
-read-u8-requires-2 c κs = search needs
+read-u8-requires-2 c κs = tt
 
 cast-colour-2 : tie.Need-cast-colour-2
 cast-colour-2 c = search needs
 
 read-u8-requires-3 : tie.Need-read-u8-requires-3
-read-u8-requires-3 c κs = search needs
+read-u8-requires-3 c κs = tt
 
 cast-colour-3 : tie.Need-cast-colour-3
 cast-colour-3 c = search needs
 
 refused-requires-2 : tie.Need-refused-requires-2
-refused-requires-2 c κs = search needs
+refused-requires-2 c κs = tt
 
 returns-3 : tie.Need-returns-3
 unfolding colr
 returns-3 c = told _ _ _ (c .refused2 .ensures) (row 2 _ (omega arith) refl)
 
 read-u32-requires : tie.Need-read-u32-requires
-read-u32-requires c κs = search needs
+read-u32-requires c κs = tt
 
 read-lab-requires : tie.Need-read-lab-requires
-read-lab-requires c κs = search needs
+read-lab-requires c κs = tt
 
 done-requires-2 : tie.Need-done-requires-2
-done-requires-2 c κs = search needs
+done-requires-2 c κs = tt
 
 returns-4 : tie.Need-returns-4
 unfolding colr
 returns-4 c = success _ _ _ (c .done2 .ensures) (row 3 _ (omega arith) (cc))
 
 done-requires-3 : tie.Need-done-requires-3
-done-requires-3 c κs = search needs
+done-requires-3 c κs = tt
 
 returns-5 : tie.Need-returns-5
 unfolding colr
@@ -72,14 +72,14 @@ add-t15 : tie.Need-add-t15
 add-t15 c = search needs
 
 done-requires-4 : tie.Need-done-requires-4
-done-requires-4 c κs = search needs
+done-requires-4 c κs = tt
 
 returns-6 : tie.Need-returns-6
 unfolding colr
 returns-6 c = success _ _ _ (c .done4 .ensures) (row 5 _ (omega arith) (cc))
 
 done-requires-5 : tie.Need-done-requires-5
-done-requires-5 c κs = search needs
+done-requires-5 c κs = tt
 
 returns-7 : tie.Need-returns-7
 unfolding colr

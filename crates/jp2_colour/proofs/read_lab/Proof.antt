@@ -4,7 +4,6 @@ use native.Mathlib.Omega.{arith}
 use mathlib.Core.Path.{refl}
 use Rattle.jp2_cio.proofs.Rows.{row}
 use Rattle.jp2_colour.specs.Colr.{lab}
-use borrow.Author.Needs.{needs}
 use Rattle.jp2_colour.proofs.read_lab.Statement.{statement}
 use Rattle.jp2_colour.proofs.read_lab.Tie as tie
 
@@ -13,25 +12,25 @@ unfolding lab
 returns c = row 0 _ (omega arith) refl
 
 read-u32-requires : tie.Need-read-u32-requires
-read-u32-requires c κs = search needs
+read-u32-requires c κs = tt
 
 read-u32-requires-2 : tie.Need-read-u32-requires-2
-read-u32-requires-2 c κs = search needs
+read-u32-requires-2 c κs = tt
 
 read-u32-requires-3 : tie.Need-read-u32-requires-3
-read-u32-requires-3 c κs = search needs
+read-u32-requires-3 c κs = tt
 
 read-u32-requires-4 : tie.Need-read-u32-requires-4
-read-u32-requires-4 c κs = search needs
+read-u32-requires-4 c κs = tt
 
 read-u32-requires-5 : tie.Need-read-u32-requires-5
-read-u32-requires-5 c κs = search needs
+read-u32-requires-5 c κs = tt
 
 read-u32-requires-6 : tie.Need-read-u32-requires-6
-read-u32-requires-6 c κs = search needs
+read-u32-requires-6 c κs = tt
 
 read-u32-requires-7 : tie.Need-read-u32-requires-7
-read-u32-requires-7 c κs = search needs
+read-u32-requires-7 c κs = tt
 
 returns-2 : tie.Need-returns-2
 unfolding lab

@@ -16,13 +16,13 @@ unfolding componentOf
 returns c = row 1 _ (omega arith) refl
 
 part-requires : tie.Need-part-requires
-part-requires c κs = search needs
+part-requires c κs = tt
 
 mul-read-u16 : tie.Need-mul-read-u16
 mul-read-u16 c = search needs
 
 read-u16-requires : tie.Need-read-u16-requires
-read-u16-requires c κs = search needs
+read-u16-requires c κs = tt
 
 cast-result : tie.Need-cast-result
 cast-result c = search needs

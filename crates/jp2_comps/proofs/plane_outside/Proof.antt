@@ -12,7 +12,7 @@ use Rattle.jp2_comps.proofs.plane_outside.Statement.{statement}
 use Rattle.jp2_comps.proofs.plane_outside.Tie as tie
 
 component-requires : tie.Need-component-requires
-component-requires c κs = search needs
+component-requires c κs = tt
 
 cast-first : tie.Need-cast-first
 cast-first c = search needs
@@ -24,7 +24,7 @@ returns-2 : tie.Need-returns-2
 returns-2 c = let a = c .before .before .before .before .args in shown true (planeOutside (listed (a .comps .now)) (a .len) (a .c)) (omega arith)
 
 size-requires : tie.Need-size-requires
-size-requires c κs = search needs
+size-requires c κs = tt
 
 returns-3 : tie.Need-returns-3
 returns-3 c =

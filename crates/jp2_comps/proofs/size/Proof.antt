@@ -9,19 +9,19 @@ use Rattle.jp2_comps.proofs.size.Statement.{statement}
 use Rattle.jp2_comps.proofs.size.Tie as tie
 
 component-requires : tie.Need-component-requires
-component-requires c κs = search needs
+component-requires c κs = tt
 
 returns : tie.Need-returns
 returns c = let a = c .before .before .before .args in size-none (a .comps .now) (a .c) (omega arith)
 
 component-requires-2 : tie.Need-component-requires-2
-component-requires-2 c κs = search needs
+component-requires-2 c κs = tt
 
 cast-result : tie.Need-cast-result
 cast-result c = search needs
 
 component-requires-3 : tie.Need-component-requires-3
-component-requires-3 c κs = search needs
+component-requires-3 c κs = tt
 
 cast-result-2 : tie.Need-cast-result-2
 cast-result-2 c = search needs

@@ -20,7 +20,7 @@ column-byte : (f : List ℕ) (p : Palette) (c : ℕ) {s : List ℕ} {b : ℕ} �
 column-byte f p c e d = d ∙ ap (λ (s : List ℕ). number s c 1) e ∙ rest-number f (p .place) c 1
 
 component-requires : tie.Need-component-requires
-component-requires c κs = search needs
+component-requires c κs = tt
 
 returns : tie.Need-returns
 unfolding expandedAt
@@ -31,17 +31,17 @@ unfolding expandedAt
 returns-2 c = row 2 _ ((λ _. omega arith), ((λ _. omega arith), ((λ none. omega arith), omega arith))) refl
 
 component-requires-2 : tie.Need-component-requires-2
-component-requires-2 c κs = search needs
+component-requires-2 c κs = tt
 
 returns-3 : tie.Need-returns-3
 unfolding expandedAt
 returns-3 c = row 3 _ ((λ some. omega arith), ((λ some. omega arith), ((λ _. omega arith), tt))) (c .component2 .ensures)
 
 part-requires : tie.Need-part-requires
-part-requires c κs = search needs
+part-requires c κs = tt
 
 read-u8-requires : tie.Need-read-u8-requires
-read-u8-requires c κs = search needs
+read-u8-requires c κs = tt
 
 cast-result : tie.Need-cast-result
 cast-result c = search needs
@@ -54,7 +54,7 @@ unfolding expandedAt
 returns-4 c = let a = c .before .before .before .before .before .before .before .args in row 0 _ (omega arith) (ap depth (column-byte (a .f .now) (a .p) (a .c) (c .before .before .part .ensures) (c .read-u8 .ensures)))
 
 read-u8-requires-2 : tie.Need-read-u8-requires-2
-read-u8-requires-2 c κs = search needs
+read-u8-requires-2 c κs = tt
 
 cast-result-2 : tie.Need-cast-result-2
 cast-result-2 c = search needs
@@ -64,7 +64,7 @@ unfolding expandedAt
 returns-5 c = let a = c .before .before .before .before .before .before .before .before .args in row 1 _ ((λ _. omega arith), omega arith) (ap sign (column-byte (a .f .now) (a .p) (a .c) (c .before .before .before .part .ensures) (c .read-u82 .ensures)))
 
 component-requires-3 : tie.Need-component-requires-3
-component-requires-3 c κs = search needs
+component-requires-3 c κs = tt
 
 returns-6 : tie.Need-returns-6
 unfolding expandedAt

@@ -20,7 +20,7 @@ unfolding typeAt
 returns-2 c = row 2 _ (c .before .before .if1 .left, (omega arith, tt)) refl
 
 part-requires : tie.Need-part-requires
-part-requires c κs = search needs
+part-requires c κs = tt
 
 mul-read-u8 : tie.Need-mul-read-u8
 mul-read-u8 c = search needs
@@ -29,7 +29,7 @@ add-read-u8 : tie.Need-add-read-u8
 add-read-u8 c = search needs
 
 read-u8-requires : tie.Need-read-u8-requires
-read-u8-requires c κs = search needs
+read-u8-requires c κs = tt
 
 cast-result : tie.Need-cast-result
 cast-result c = search needs

@@ -14,7 +14,7 @@ use Rattle.jp2_file.proofs.find_box.Statement.{statement}
 use Rattle.jp2_file.proofs.find_box.Tie as tie
 
 from-stream-requires : tie.Need-from-stream-requires
-from-stream-requires c κs = search needs
+from-stream-requires c κs = tt
 
 enum-known-h : tie.Need-enum-known-h
 enum-known-h c = search needs

@@ -1,12 +1,11 @@
 -- `jp2_file::is_early` meets its contract.
 -- Assumes nothing.
 use mathlib.Core.Path.{sym, _∙_}
-use borrow.Author.Needs.{needs}
 use Rattle.jp2_file.proofs.is_early.Statement.{statement}
 use Rattle.jp2_file.proofs.is_early.Tie as tie
 
 is-image-header-requires : tie.Need-is-image-header-requires
-is-image-header-requires c κs = search needs
+is-image-header-requires c κs = tt
 
 returns : tie.Need-returns
 returns c = rw (sym (c .before .is-image-header .ensures) ∙ c .if1 .taken)

@@ -19,7 +19,7 @@ abbrev μ-loop : tie.MeasureT-loop
 μ-loop s j k₀ rest₀ at₀ k rest at = length rest
 
 turned-down-requires : tie.Need-turned-down-requires Inv-loop μ-loop
-turned-down-requires c κs = search needs
+turned-down-requires c κs = tt
 
 returns : tie.Need-returns Inv-loop μ-loop
 unfolding walk
@@ -29,13 +29,13 @@ loop-holds : tie.Need-loop-holds Inv-loop μ-loop
 loop-holds c = let a = c .before .before .args in going-start (a .s .now) (a .j) (omega arith)
 
 find-box-requires : tie.Need-find-box-requires Inv-loop μ-loop
-find-box-requires c κs = search needs
+find-box-requires c κs = tt
 
 enum-told : tie.Need-enum-told Inv-loop μ-loop
 enum-told c = search needs
 
 over-requires : tie.Need-over-requires Inv-loop μ-loop
-over-requires c κs = search needs
+over-requires c κs = tt
 
 returns-2 : tie.Need-returns-2 Inv-loop μ-loop
 returns-2 c = let a = c .before .before .before .before .before .before .before .before .args in gives-end (a .j) _ _ (c .over .ensures) (walked (a .s .now) (a .j) (omega arith) (going-none (c .before .before .before .before .before .loop .inv) (omega arith) (c .before .before .before .find-box .ensures) (c .before .enum-told .given .1)))
@@ -47,7 +47,7 @@ add-read-stream : tie.Need-add-read-stream Inv-loop μ-loop
 add-read-stream c = omega (arith, going-header (c .before .before .before .before .before .loop .inv) (omega arith) (c .before .before .before .find-box .ensures) (c .before .found .given .1), c .before .before .before .before .before .loop .inv .room)
 
 read-stream-requires : tie.Need-read-stream-requires Inv-loop μ-loop
-read-stream-requires c κs = search needs
+read-stream-requires c κs = tt
 
 returns-3 : tie.Need-returns-3 Inv-loop μ-loop
 returns-3 c = let a = c .before .before .before .before .before .before .before .before .before .args in gives _ _ _ (c .read-stream .ensures) (walked (a .s .now) (a .j) (omega arith) (going-stream (c .before .before .before .before .before .before .loop .inv) (omega arith) (c .before .before .before .before .find-box .ensures) (c .before .before .found .given .1)))
@@ -56,7 +56,7 @@ enum-told-2 : tie.Need-enum-told-2 Inv-loop μ-loop
 enum-told-2 c = search needs
 
 turned-down-requires-2 : tie.Need-turned-down-requires-2 Inv-loop μ-loop
-turned-down-requires-2 c κs = search needs
+turned-down-requires-2 c κs = tt
 
 returns-4 : tie.Need-returns-4 Inv-loop μ-loop
 returns-4 c = let a = c .before .before .before .before .before .before .before .before .args in gives _ _ _ (c .turned-down2 .ensures) (walked (a .s .now) (a .j) (omega arith) (going-short (c .before .before .before .before .before .loop .inv) (omega arith) (c .before .before .before .find-box .ensures) (c .before .enum-told2 .given .1)))
@@ -65,7 +65,7 @@ enum-known-found-2 : tie.Need-enum-known-found-2 Inv-loop μ-loop
 enum-known-found-2 c = search needs
 
 read-past-requires : tie.Need-read-past-requires Inv-loop μ-loop
-read-past-requires c κs = search needs
+read-past-requires c κs = tt
 
 returns-5 : tie.Need-returns-5 Inv-loop μ-loop
 returns-5 c = let a = c .before .before .before .before .before .before .before .before .before .args in gives _ _ _ (c .read-past .ensures) (walked (a .s .now) (a .j) (omega arith) (going-past (c .before .before .before .before .before .before .loop .inv) (omega arith) (c .before .before .before .before .find-box .ensures) (c .before .before .found2 .given .1)))
@@ -80,7 +80,7 @@ enum-known-answer : tie.Need-enum-known-answer Inv-loop μ-loop
 enum-known-answer c = search needs
 
 turned-down-requires-3 : tie.Need-turned-down-requires-3 Inv-loop μ-loop
-turned-down-requires-3 c κs = search needs
+turned-down-requires-3 c κs = tt
 
 returns-6 : tie.Need-returns-6 Inv-loop μ-loop
 returns-6 c = let a = c .before .before .before .before .before .before .before .before .before .before .before .before .before .args in gives _ _ _ (c .turned-down3 .ensures) (walked (a .s .now) (a .j) (omega (arith, c .before .before .before .before .before .before .before .before .before .before .before .if1 .left)) (going-down (c .before .before .before .before .before .before .before .before .before .before .loop .inv) (omega arith) (c .before .before .before .before .before .before .before .before .find-box .ensures) (c .before .before .before .before .before .before .found3 .given .1) (c .before .before .before .before .read-whole .ensures) (c .before .before .answer .given .1)))
@@ -110,7 +110,7 @@ loop-again : tie.Need-loop-again Inv-loop μ-loop
 loop-again c = going-on (c .before .before .before .before .before .before .before .before .before .before .before .before .loop .inv) (omega arith) (c .before .before .before .before .before .before .before .before .before .before .find-box .ensures) (c .before .before .before .before .before .before .before .before .found3 .given .1) (c .before .before .before .before .before .before .read-whole .ensures) (c .before .before .before .before .enum-told3 .given .1)
 
 over-requires-2 : tie.Need-over-requires-2 Inv-loop μ-loop
-over-requires-2 c κs = search needs
+over-requires-2 c κs = tt
 
 returns-7 : tie.Need-returns-7 Inv-loop μ-loop
 returns-7 c = let a = c .before .before .before .before .before .args in gives-end (a .j) _ _ (c .over2 .ensures) (walked (a .s .now) (a .j) (omega arith) (going-end (c .before .before .loop .inv) (omega arith)))

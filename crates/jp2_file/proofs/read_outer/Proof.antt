@@ -16,16 +16,16 @@ enum-told : tie.Need-enum-told
 enum-told c = search needs
 
 opj-jp2-read-jp-requires : tie.Need-opj-jp2-read-jp-requires
-opj-jp2-read-jp-requires c κs = search needs
+opj-jp2-read-jp-requires c κs = tt
 
 enum-told-2 : tie.Need-enum-told-2
 enum-told-2 c = search needs
 
 opj-jp2-read-ftyp-requires : tie.Need-opj-jp2-read-ftyp-requires
-opj-jp2-read-ftyp-requires c κs = search needs
+opj-jp2-read-ftyp-requires c κs = tt
 
 read-inner-requires : tie.Need-read-inner-requires
-read-inner-requires c κs = search needs
+read-inner-requires c κs = tt
 
 returns : tie.Need-returns
 unfolding outer

@@ -13,23 +13,23 @@ use Rattle.jp2_file.proofs.read_past.Statement.{statement}
 use Rattle.jp2_file.proofs.read_past.Tie as tie
 
 is-read-requires : tie.Need-is-read-requires
-is-read-requires c κs = search needs
+is-read-requires c κs = tt
 
 turned-down-requires : tie.Need-turned-down-requires
-turned-down-requires c κs = search needs
+turned-down-requires c κs = tt
 
 returns : tie.Need-returns
 unfolding pastKind
 returns c = let r = said true (isRead (c .before .before .before .args .ty)) (sym (c .before .before .is-read .ensures) ∙ c .before .if1 .taken) in gives _ _ _ (c .turned-down .ensures) (row 0 _ r refl)
 
 read-other-requires : tie.Need-read-other-requires
-read-other-requires c κs = search needs
+read-other-requires c κs = tt
 
 enum-known-answer : tie.Need-enum-known-answer
 enum-known-answer c = search needs
 
 turned-down-requires-2 : tie.Need-turned-down-requires-2
-turned-down-requires-2 c κs = search needs
+turned-down-requires-2 c κs = tt
 
 returns-2 : tie.Need-returns-2
 unfolding pastKind
@@ -39,7 +39,7 @@ enum-told : tie.Need-enum-told
 enum-told c = search needs
 
 over-requires : tie.Need-over-requires
-over-requires c κs = search needs
+over-requires c κs = tt
 
 returns-3 : tie.Need-returns-3
 unfolding pastKind

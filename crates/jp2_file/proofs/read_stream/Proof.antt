@@ -7,18 +7,17 @@ use Rattle.jp2_record.specs.Record.{withState}
 use Rattle.jp2_record.specs.State.{withBit}
 use Rattle.jp2_file.specs.File.{codestream, reading}
 use Rattle.jp2_file.proofs.Turns.{gives}
-use borrow.Author.Needs.{needs}
 use Rattle.jp2_file.proofs.read_stream.Statement.{statement}
 use Rattle.jp2_file.proofs.read_stream.Tie as tie
 
 turned-down-requires : tie.Need-turned-down-requires
-turned-down-requires c κs = search needs
+turned-down-requires c κs = tt
 
 returns : tie.Need-returns
 returns c = gives _ _ _ (c .turned-down .ensures) (row 0 _ (omega arith) refl)
 
 with-stream-requires : tie.Need-with-stream-requires
-with-stream-requires c κs = search needs
+with-stream-requires c κs = tt
 
 returns-2 : tie.Need-returns-2
 unfolding reading

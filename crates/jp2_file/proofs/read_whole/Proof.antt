@@ -20,7 +20,7 @@ cast-part-2 : tie.Need-cast-part-2
 cast-part-2 c = search needs
 
 part-requires : tie.Need-part-requires
-part-requires c κs = search needs
+part-requires c κs = tt
 
 add-start : tie.Need-add-start
 add-start c = let p = c .before .before .before .before .before .pre in omega (arith, p .head, p .least, p .most, p .room)

@@ -1,15 +1,14 @@
 -- `jp2_file::skip` meets its contract.
 -- Assumes nothing.
 use Rattle.jp2_record.proofs.Told.{success}
-use borrow.Author.Needs.{needs}
 use Rattle.jp2_file.proofs.skip.Statement.{statement}
 use Rattle.jp2_file.proofs.skip.Tie as tie
 
 with-unknown-requires : tie.Need-with-unknown-requires
-with-unknown-requires c κs = search needs
+with-unknown-requires c κs = tt
 
 done-requires : tie.Need-done-requires
-done-requires c κs = search needs
+done-requires c κs = tt
 
 returns : tie.Need-returns
 returns c = success _ _ _ (c .done .ensures) (cc)

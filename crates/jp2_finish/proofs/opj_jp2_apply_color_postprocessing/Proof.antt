@@ -14,7 +14,7 @@ use Rattle.jp2_finish.proofs.opj_jp2_apply_color_postprocessing.Stateme
 use Rattle.jp2_finish.proofs.opj_jp2_apply_color_postprocessing.Tie as tie
 
 outside-lists-requires : tie.Need-outside-lists-requires
-outside-lists-requires c κs = search needs
+outside-lists-requires c κs = tt
 
 returns : tie.Need-returns
 returns c =
@@ -22,7 +22,7 @@ returns c =
     done-as refl (declined-done (finish (a .f .now) (a .m) (a .ignore) (image (a .comps .now) (a .count) (a .samples .now)) (length (a .records .now)) (length (a .planes .now))) (a .records .now) (a .planes .now) (finish-29 (a .f .now) (a .m) (a .ignore) (image (a .comps .now) (a .count) (a .samples .now)) (length (a .records .now)) (length (a .planes .now)) (or-first (outsideLists (image (a .comps .now) (a .count) (a .samples .now))) (outsideFile (a .f .now) (a .m)) (said true (outsideLists (image (a .comps .now) (a .count) (a .samples .now))) (sym (c .if1 .taken) ∙ c .before .outside-lists .ensures)))))
 
 outside-file-requires : tie.Need-outside-file-requires
-outside-file-requires c κs = search needs
+outside-file-requires c κs = tt
 
 returns-2 : tie.Need-returns-2
 returns-2 c =
@@ -30,10 +30,10 @@ returns-2 c =
     done-as refl (declined-done (finish (a .f .now) (a .m) (a .ignore) (image (a .comps .now) (a .count) (a .samples .now)) (length (a .records .now)) (length (a .planes .now))) (a .records .now) (a .planes .now) (finish-29 (a .f .now) (a .m) (a .ignore) (image (a .comps .now) (a .count) (a .samples .now)) (length (a .records .now)) (length (a .planes .now)) (λ _. said true (outsideFile (a .f .now) (a .m)) (sym (c .if2 .taken) ∙ c .before .outside-file .ensures))))
 
 counted-requires : tie.Need-counted-requires
-counted-requires c κs = search needs
+counted-requires c κs = tt
 
 opj-jp2-check-color-requires : tie.Need-opj-jp2-check-color-requires
-opj-jp2-check-color-requires c κs = search needs
+opj-jp2-check-color-requires c κs = tt
 
 enum-known-number : tie.Need-enum-known-number
 enum-known-number c = search needs

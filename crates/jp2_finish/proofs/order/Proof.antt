@@ -13,7 +13,7 @@ returns : tie.Need-returns
 returns c = let b = c .before .before .before .before in let a = b .args in reordered-none (a .f .now) (a .cdef) (a .n) (a .records .now) (omega arith) (b .pre .1)
 
 opj-jp2-apply-cdef-requires : tie.Need-opj-jp2-apply-cdef-requires
-opj-jp2-apply-cdef-requires c κs = search needs
+opj-jp2-apply-cdef-requires c κs = tt
 
 same-length : tie.Need-same-length
 same-length c = search needs

@@ -11,7 +11,7 @@ use Rattle.jp2_finish.proofs.pack_channel.Statement.{statement}
 use Rattle.jp2_finish.proofs.pack_channel.Tie as tie
 
 component-of-requires : tie.Need-component-of-requires
-component-of-requires c κs = search needs
+component-of-requires c κs = tt
 
 cast-pack-record : tie.Need-cast-pack-record
 cast-pack-record c = search needs
@@ -20,7 +20,7 @@ pack-record-requires : tie.Need-pack-record-requires
 pack-record-requires c κs = search needs
 
 type-of-requires : tie.Need-type-of-requires
-type-of-requires c κs = search needs
+type-of-requires c κs = tt
 
 pack-samples-requires : tie.Need-pack-samples-requires
 pack-samples-requires c κs =

@@ -10,7 +10,7 @@ use Rattle.jp2_finish.proofs.pack_samples.Statement.{statement}
 use Rattle.jp2_finish.proofs.pack_samples.Tie as tie
 
 component-requires : tie.Need-component-requires
-component-requires c κs = search needs
+component-requires c κs = tt
 
 returns : tie.Need-returns
 returns c =
@@ -19,13 +19,13 @@ returns c =
     (omega arith, placed-blank (a .f .now) (a .p) (a .comps .now) (a .samples .now) (a .c) (a .r) (a .typ) (a .planes .now) (a .at) e)
 
 size-requires : tie.Need-size-requires
-size-requires c κs = search needs
+size-requires c κs = tt
 
 cast-put-channel : tie.Need-cast-put-channel
 cast-put-channel c = search needs
 
 put-channel-requires : tie.Need-put-channel-requires
-put-channel-requires c κs = search needs
+put-channel-requires c κs = tt
 
 add-result : tie.Need-add-result
 add-result c = let b = c .before .before .before .before .before .before .before .before in omega (arith, b .pre .fits)

@@ -14,7 +14,7 @@ returns : tie.Need-returns
 returns c = let a = c .before .before .before .before .before .before .args in refused-28 (a .f .now) (a .m) (a .comps .now) (a .count) (a .samples .now) (a .records) (a .planes) (c .before .before .first-dataless .ensures) (omega arith)
 
 channel-count-requires : tie.Need-channel-count-requires
-channel-count-requires c κs = search needs
+channel-count-requires c κs = tt
 
 cast-if2 : tie.Need-cast-if2
 cast-if2 c = search needs

@@ -13,14 +13,14 @@ cast-if1 : tie.Need-cast-if1
 cast-if1 c = search needs
 
 refused-requires : tie.Need-refused-requires
-refused-requires c κs = search needs
+refused-requires c κs = tt
 
 returns : tie.Need-returns
 unfolding bpcc
 returns c = told _ _ _ (c .refused .ensures) (row 0 _ (omega arith) refl)
 
 done-requires : tie.Need-done-requires
-done-requires c κs = search needs
+done-requires c κs = tt
 
 returns-2 : tie.Need-returns-2
 unfolding bpcc

@@ -11,48 +11,48 @@ use Rattle.jp2_palette.proofs.opj_jp2_read_pclr.Statement.{statement}
 use Rattle.jp2_palette.proofs.opj_jp2_read_pclr.Tie as tie
 
 refused-requires : tie.Need-refused-requires
-refused-requires c κs = search needs
+refused-requires c κs = tt
 
 returns : tie.Need-returns
 unfolding pclr
 returns c = told _ _ _ (c .refused .ensures) (row 0 _ (omega arith) refl)
 
 refused-requires-2 : tie.Need-refused-requires-2
-refused-requires-2 c κs = search needs
+refused-requires-2 c κs = tt
 
 returns-2 : tie.Need-returns-2
 unfolding pclr
 returns-2 c = told _ _ _ (c .refused2 .ensures) (row 1 _ (omega arith) refl)
 
 read-u16-requires : tie.Need-read-u16-requires
-read-u16-requires c κs = search needs
+read-u16-requires c κs = tt
 
 read-u8-requires : tie.Need-read-u8-requires
-read-u8-requires c κs = search needs
+read-u8-requires c κs = tt
 
 refused-requires-3 : tie.Need-refused-requires-3
-refused-requires-3 c κs = search needs
+refused-requires-3 c κs = tt
 
 returns-3 : tie.Need-returns-3
 unfolding pclr
 returns-3 c = told _ _ _ (c .refused3 .ensures) (row 2 _ (omega arith) refl)
 
 refused-requires-4 : tie.Need-refused-requires-4
-refused-requires-4 c κs = search needs
+refused-requires-4 c κs = tt
 
 returns-4 : tie.Need-returns-4
 unfolding pclr
 returns-4 c = told _ _ _ (c .refused4 .ensures) (row 2 _ (omega arith) refl)
 
 refused-requires-5 : tie.Need-refused-requires-5
-refused-requires-5 c κs = search needs
+refused-requires-5 c κs = tt
 
 returns-5 : tie.Need-returns-5
 unfolding pclr
 returns-5 c = told _ _ _ (c .refused5 .ensures) (row 2 _ (omega arith) refl)
 
 row-bytes-requires : tie.Need-row-bytes-requires
-row-bytes-requires c κs = search needs
+row-bytes-requires c κs = tt
 
 cast-if6 : tie.Need-cast-if6
 cast-if6 c = search needs
@@ -70,7 +70,7 @@ add-if6-2 : tie.Need-add-if6-2
 add-if6-2 c = omega (arith, rows-most _ _ _ (c .before .before .before .before .before .read-u16 .result) (omega arith) (omega arith) (c .row-bytes .ensures))
 
 refused-requires-6 : tie.Need-refused-requires-6
-refused-requires-6 c κs = search needs
+refused-requires-6 c κs = tt
 
 returns-6 : tie.Need-returns-6
 unfolding pclr
@@ -86,7 +86,7 @@ cast-t19 : tie.Need-cast-t19
 cast-t19 c = search needs
 
 done-requires : tie.Need-done-requires
-done-requires c κs = search needs
+done-requires c κs = tt
 
 returns-7 : tie.Need-returns-7
 unfolding pclr

@@ -2,7 +2,6 @@
 -- Assumes nothing.
 use Prim.Native.Nat.{_≤_, _*_, _-_}
 use native.Mathlib.Omega.{arith}
-use borrow.Author.Needs.{needs}
 use mathlib.Core.Path.{_≡_, refl, ap, _∙_}
 use Rattle.jp2_palette.specs.Pclr.{entryBytes, rowBytes}
 use Rattle.jp2_palette.proofs.Entries.{entry-most, row-next}
@@ -23,10 +22,10 @@ add-read-u8 : tie.Need-add-read-u8 Inv-loop μ-loop
 add-read-u8 c = omega arith
 
 read-u8-requires : tie.Need-read-u8-requires Inv-loop μ-loop
-read-u8-requires c κs = search needs
+read-u8-requires c κs = tt
 
 entry-bytes-requires : tie.Need-entry-bytes-requires Inv-loop μ-loop
-entry-bytes-requires c κs = search needs
+entry-bytes-requires c κs = tt
 
 add-sum : tie.Need-add-sum Inv-loop μ-loop
 add-sum c = omega (arith, entry-most (c .before .read-u8 .result))

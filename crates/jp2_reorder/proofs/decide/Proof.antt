@@ -15,7 +15,7 @@ add-at : tie.Need-add-at
 add-at c = search needs
 
 read-u16-requires : tie.Need-read-u16-requires
-read-u16-requires c κs = search needs
+read-u16-requires c κs = tt
 
 cast-c : tie.Need-cast-c
 cast-c c = search needs
@@ -24,13 +24,13 @@ add-read-u16 : tie.Need-add-read-u16
 add-read-u16 c = search needs
 
 read-u16-requires-2 : tie.Need-read-u16-requires-2
-read-u16-requires-2 c κs = search needs
+read-u16-requires-2 c κs = tt
 
 add-read-u16-2 : tie.Need-add-read-u16-2
 add-read-u16-2 c = search needs
 
 read-u16-requires-3 : tie.Need-read-u16-requires-3
-read-u16-requires-3 c κs = search needs
+read-u16-requires-3 c κs = tt
 
 cast-asoc : tie.Need-cast-asoc
 cast-asoc c = search needs

@@ -2,7 +2,6 @@
 -- Assumes nothing.
 use Prim.Native.Nat.{_+_, _-_, _*_}
 use native.Mathlib.Omega.{arith}
-use borrow.Author.Needs.{needs}
 use mathlib.Core.Path.{refl, ap₂}
 use Rattle.jp2_cio.proofs.Rows.{row}
 use Rattle.jp2_written.specs.Setup.{BPCi}
@@ -11,20 +10,20 @@ use Rattle.jp2_setup.proofs.bits.Statement.{statement}
 use Rattle.jp2_setup.proofs.bits.Tie as tie
 
 first-other-requires : tie.Need-first-other-requires
-first-other-requires c κs = search needs
+first-other-requires c κs = tt
 
 returns : tie.Need-returns
 unfolding bpcOf
 returns c = row 0 _ (omega arith) refl
 
 component-requires : tie.Need-component-requires
-component-requires c κs = search needs
+component-requires c κs = tt
 
 sub-result : tie.Need-sub-result
 sub-result c = omega arith
 
 component-requires-2 : tie.Need-component-requires-2
-component-requires-2 c κs = search needs
+component-requires-2 c κs = tt
 
 mul-result : tie.Need-mul-result
 mul-result c = omega arith

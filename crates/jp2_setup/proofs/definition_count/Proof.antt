@@ -1,7 +1,6 @@
 -- `jp2_setup::definition_count` meets its contract.
 -- Assumes nothing.
 use native.Mathlib.Omega.{arith}
-use borrow.Author.Needs.{needs}
 use mathlib.Core.Path.{refl}
 use Rattle.jp2_cio.proofs.Rows.{row}
 use Rattle.jp2_setup.specs.Parts.{countOf}
@@ -9,7 +8,7 @@ use Rattle.jp2_setup.proofs.definition_count.Statement.{statement}
 use Rattle.jp2_setup.proofs.definition_count.Tie as tie
 
 mark-count-requires : tie.Need-mark-count-requires
-mark-count-requires c κs = search needs
+mark-count-requires c κs = tt
 
 returns : tie.Need-returns
 unfolding countOf
@@ -20,7 +19,7 @@ unfolding countOf
 returns-2 c = row 1 _ (omega arith) refl
 
 first-marked-requires : tie.Need-first-marked-requires
-first-marked-requires c κs = search needs
+first-marked-requires c κs = tt
 
 returns-3 : tie.Need-returns-3
 unfolding countOf

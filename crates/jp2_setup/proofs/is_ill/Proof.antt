@@ -1,7 +1,6 @@
 -- `jp2_setup::is_ill` meets its contract.
 -- Assumes nothing.
 use native.Mathlib.Omega.{arith}
-use borrow.Author.Needs.{needs}
 use mathlib.Core.Bool.{true}
 use Rattle.jp2_cio.specs.Table.{_<?_}
 use Rattle.jp2_written.specs.Writing.{ill}
@@ -11,7 +10,7 @@ use Rattle.jp2_setup.proofs.is_ill.Statement.{statement}
 use Rattle.jp2_setup.proofs.is_ill.Tie as tie
 
 component-requires : tie.Need-component-requires
-component-requires c κs = search needs
+component-requires c κs = tt
 
 returns : tie.Need-returns
 returns c = let a = c .before .before .before .args in shown true (ill (listed (a .comps .now)) (a .c)) (λ some. absurd (some (omega arith)))
@@ -20,7 +19,7 @@ returns-2 : tie.Need-returns-2
 returns-2 c = let a = c .before .before .before .before .args in shown true (ill (listed (a .comps .now)) (a .c)) (λ some few. absurd (omega arith))
 
 component-requires-2 : tie.Need-component-requires-2
-component-requires-2 c κs = search needs
+component-requires-2 c κs = tt
 
 returns-3 : tie.Need-returns-3
 returns-3 c =

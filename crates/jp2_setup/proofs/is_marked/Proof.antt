@@ -1,14 +1,13 @@
 -- `jp2_setup::is_marked` meets its contract.
 -- Assumes nothing.
 use native.Mathlib.Omega.{arith}
-use borrow.Author.Needs.{needs}
 use mathlib.Core.Path.{refl}
 use Rattle.jp2_cio.proofs.Rows.{row}
 use Rattle.jp2_setup.proofs.is_marked.Statement.{statement}
 use Rattle.jp2_setup.proofs.is_marked.Tie as tie
 
 component-requires : tie.Need-component-requires
-component-requires c κs = search needs
+component-requires c κs = tt
 
 returns : tie.Need-returns
 returns c = row 0 _ (λ z. omega arith) refl

@@ -30,7 +30,7 @@ unfolding setUp
 returns-3 c = row 1 _ (omega arith) refl
 
 first-ill-requires : tie.Need-first-ill-requires
-first-ill-requires c κs = search needs
+first-ill-requires c κs = tt
 
 returns-4 : tie.Need-returns-4
 unfolding setUp
@@ -41,16 +41,16 @@ bits-requires : tie.Need-bits-requires
 bits-requires c κs = let a = c .before .before .before .before .before .before .before .args in lowest-none (ill (listed (a .comps .now))) (a .count) (omega arith) 0 (omega arith)
 
 method-requires : tie.Need-method-requires
-method-requires c κs = search needs
+method-requires c κs = tt
 
 enumerated-requires : tie.Need-enumerated-requires
-enumerated-requires c κs = search needs
+enumerated-requires c κs = tt
 
 colour-count-requires : tie.Need-colour-count-requires
-colour-count-requires c κs = search needs
+colour-count-requires c κs = tt
 
 definition-count-requires : tie.Need-definition-count-requires
-definition-count-requires c κs = search needs
+definition-count-requires c κs = tt
 
 wrapping-sub-u32-requires : tie.Need-wrapping-sub-u32-requires
 wrapping-sub-u32-requires c κs = search needs

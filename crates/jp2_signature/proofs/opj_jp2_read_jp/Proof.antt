@@ -5,36 +5,35 @@ use mathlib.Core.Path.{refl}
 use Rattle.jp2_cio.proofs.Rows.{row}
 use Rattle.jp2_record.proofs.Told.{told, success}
 use Rattle.jp2_signature.specs.Signature.{signature}
-use borrow.Author.Needs.{needs}
 use Rattle.jp2_signature.proofs.opj_jp2_read_jp.Statement.{statement}
 use Rattle.jp2_signature.proofs.opj_jp2_read_jp.Tie as tie
 
 refused-requires : tie.Need-refused-requires
-refused-requires c κs = search needs
+refused-requires c κs = tt
 
 returns : tie.Need-returns
 unfolding signature
 returns c = told _ _ _ (c .refused .ensures) (row 0 _ (omega arith) refl)
 
 refused-requires-2 : tie.Need-refused-requires-2
-refused-requires-2 c κs = search needs
+refused-requires-2 c κs = tt
 
 returns-2 : tie.Need-returns-2
 unfolding signature
 returns-2 c = told _ _ _ (c .refused2 .ensures) (row 0 _ (omega arith) refl)
 
 read-u32-requires : tie.Need-read-u32-requires
-read-u32-requires c κs = search needs
+read-u32-requires c κs = tt
 
 refused-requires-3 : tie.Need-refused-requires-3
-refused-requires-3 c κs = search needs
+refused-requires-3 c κs = tt
 
 returns-3 : tie.Need-returns-3
 unfolding signature
 returns-3 c = told _ _ _ (c .refused3 .ensures) (row 0 _ (omega arith) refl)
 
 done-requires : tie.Need-done-requires
-done-requires c κs = search needs
+done-requires c κs = tt
 
 returns-4 : tie.Need-returns-4
 unfolding signature

@@ -1,6 +1,5 @@
 -- `jp2_walk::closed` meets its contract.
 -- Assumes nothing.
-use borrow.Author.Needs.{needs}
 use Rattle.jp2_walk.proofs.closed.Statement.{statement}
 use Rattle.jp2_walk.proofs.closed.Tie as tie
 
@@ -8,7 +7,7 @@ returns : tie.Need-returns
 returns c = rw (c .if1 .taken)
 
 with-header-requires : tie.Need-with-header-requires
-with-header-requires c κs = search needs
+with-header-requires c κs = tt
 
 returns-2 : tie.Need-returns-2
 returns-2 c = rw (c .before .if1 .left, c .with-header .ensures)

@@ -11,7 +11,7 @@ returns : tie.Need-returns
 returns c = let a = c .before .before .args in next-none (a .at) (a .c .now) (c .if1 .taken)
 
 read-requires : tie.Need-read-requires
-read-requires c κs = search needs
+read-requires c κs = tt
 
 enum-known-h : tie.Need-enum-known-h
 enum-known-h c = search needs

@@ -1,7 +1,6 @@
 -- `jp2_walk::find_next` meets its contract.
 -- Assumes nothing.
 use native.Mathlib.Omega.{arith}
-use borrow.Author.Needs.{needs}
 use Rattle.jp2_walk.proofs.find_next.Statement.{statement}
 use Rattle.jp2_walk.proofs.find_next.Tie as tie
 
@@ -12,7 +11,7 @@ returns : tie.Need-returns
 returns c = rw (c .if1 .taken)
 
 find-child-requires : tie.Need-find-child-requires
-find-child-requires c κs = search needs
+find-child-requires c κs = tt
 
 returns-2 : tie.Need-returns-2
 returns-2 c = rw (c .before .if1 .left) (c .find-child .ensures)

@@ -2,12 +2,11 @@
 -- Assumes nothing.
 use Rattle.jp2_record.proofs.Told.{told}
 use Rattle.jp2_walk.proofs.Ways.{box-alone}
-use borrow.Author.Needs.{needs}
 use Rattle.jp2_walk.proofs.opj_jp2_read_jp2h.Statement.{statement}
 use Rattle.jp2_walk.proofs.opj_jp2_read_jp2h.Tie as tie
 
 read-header-box-requires : tie.Need-read-header-box-requires
-read-header-box-requires c κs = search needs
+read-header-box-requires c κs = tt
 
 returns : tie.Need-returns
 returns c = let a = c .before .before .args in told _ _ _ (c .read-header-box .ensures) (box-alone (a .place) (a .start) (a .c .now) (a .j))

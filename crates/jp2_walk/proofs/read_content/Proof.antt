@@ -11,37 +11,37 @@ enum-told : tie.Need-enum-told
 enum-told c = search needs
 
 opj-jp2-read-ihdr-requires : tie.Need-opj-jp2-read-ihdr-requires
-opj-jp2-read-ihdr-requires c κs = search needs
+opj-jp2-read-ihdr-requires c κs = tt
 
 enum-told-2 : tie.Need-enum-told-2
 enum-told-2 c = search needs
 
 opj-jp2-read-bpcc-requires : tie.Need-opj-jp2-read-bpcc-requires
-opj-jp2-read-bpcc-requires c κs = search needs
+opj-jp2-read-bpcc-requires c κs = tt
 
 enum-told-3 : tie.Need-enum-told-3
 enum-told-3 c = search needs
 
 opj-jp2-read-colr-requires : tie.Need-opj-jp2-read-colr-requires
-opj-jp2-read-colr-requires c κs = search needs
+opj-jp2-read-colr-requires c κs = tt
 
 enum-told-4 : tie.Need-enum-told-4
 enum-told-4 c = search needs
 
 opj-jp2-read-pclr-requires : tie.Need-opj-jp2-read-pclr-requires
-opj-jp2-read-pclr-requires c κs = search needs
+opj-jp2-read-pclr-requires c κs = tt
 
 enum-told-5 : tie.Need-enum-told-5
 enum-told-5 c = search needs
 
 opj-jp2-read-cmap-requires : tie.Need-opj-jp2-read-cmap-requires
-opj-jp2-read-cmap-requires c κs = search needs
+opj-jp2-read-cmap-requires c κs = tt
 
 enum-told-6 : tie.Need-enum-told-6
 enum-told-6 c = search needs
 
 opj-jp2-read-cdef-requires : tie.Need-opj-jp2-read-cdef-requires
-opj-jp2-read-cdef-requires c κs = search needs
+opj-jp2-read-cdef-requires c κs = tt
 
 mul-status : tie.Need-mul-status
 mul-status c = search needs
@@ -50,7 +50,7 @@ add-status : tie.Need-add-status
 add-status c = search needs
 
 done-requires : tie.Need-done-requires
-done-requires c κs = search needs
+done-requires c κs = tt
 
 returns : tie.Need-returns
 returns c = read-as _ _ _ _ (c .before .enum-told .given .1) (c .opj-jp2-read-ihdr .ensures)

@@ -16,19 +16,19 @@ abbrev μ-loop : tie.MeasureT-loop
 μ-loop ty c place start j alone number k₀ lone₀ rest₀ at₀ lacks₀ k lone rest at lacks = turns lone rest
 
 is-image-header-requires : tie.Need-is-image-header-requires Inv-loop μ-loop
-is-image-header-requires c κs = search needs
+is-image-header-requires c κs = tt
 
 refusal-requires : tie.Need-refusal-requires Inv-loop μ-loop
-refusal-requires c κs = search needs
+refusal-requires c κs = tt
 
 refused-requires : tie.Need-refused-requires Inv-loop μ-loop
-refused-requires c κs = search needs
+refused-requires c κs = tt
 
 returns : tie.Need-returns Inv-loop μ-loop
 returns c = let a = c .before .before .before .before .before .before .args in told _ _ _ (c .refused .ensures) (box-begins (a .ty) (a .place) (a .start) (a .c .now) (a .j) _ (c .before .before .before .before .is-image-header .ensures) (c .before .before .refusal .ensures) .0 (c .before .if1 .taken))
 
 opened-requires : tie.Need-opened-requires Inv-loop μ-loop
-opened-requires c κs = search needs
+opened-requires c κs = tt
 
 loop-holds : tie.Need-loop-holds Inv-loop μ-loop
 loop-holds c = let a = c .before .before .before .before .before .before .args in let f = box-begins (a .ty) (a .place) (a .start) (a .c .now) (a .j) _ (c .before .before .before .before .is-image-header .ensures) (c .before .before .refusal .ensures) .1 (omega (arith, c .before .if1 .left)) in rw (c .opened .ensures) (going-start (a .ty) (a .place) (a .start) (a .c .now) (a .j) (c .before .before .before .before .is-image-header .result) (f .0))
@@ -40,16 +40,16 @@ enum-told : tie.Need-enum-told Inv-loop μ-loop
 enum-told c = search needs
 
 refused-requires-2 : tie.Need-refused-requires-2 Inv-loop μ-loop
-refused-requires-2 c κs = search needs
+refused-requires-2 c κs = tt
 
 returns-2 : tie.Need-returns-2 Inv-loop μ-loop
 returns-2 c = let a = c .before .before .before .before .before .before .before .before .before .before .before .before .args in let i = c .before .before .before .before .before .before .before .before .before .before .is-image-header .ensures in let f = box-begins (a .ty) (a .place) (a .start) (a .c .now) (a .j) _ i (c .before .before .before .before .before .before .before .before .refusal .ensures) .1 (omega (arith, c .before .before .before .before .before .before .before .if1 .left)) in let e = going-end _ (c .before .before .before .before .before .loop .inv) (c .before .before .before .before .find-next .ensures) (c .before .before .enum-told .given .1) in told _ _ _ (c .refused2 .ensures) (box-lacks (a .ty) (a .place) (a .start) (a .c .now) (a .j) _ i f (e .0) (e .1 ∙ c .before .if2 .taken))
 
 closed-requires : tie.Need-closed-requires Inv-loop μ-loop
-closed-requires c κs = search needs
+closed-requires c κs = tt
 
 done-requires : tie.Need-done-requires Inv-loop μ-loop
-done-requires c κs = search needs
+done-requires c κs = tt
 
 returns-3 : tie.Need-returns-3 Inv-loop μ-loop
 returns-3 c = let a = c .before .before .before .before .before .before .before .before .before .before .before .before .before .args in let i = c .before .before .before .before .before .before .before .before .before .before .before .is-image-header .ensures in let f = box-begins (a .ty) (a .place) (a .start) (a .c .now) (a .j) _ i (c .before .before .before .before .before .before .before .before .before .refusal .ensures) .1 (omega (arith, c .before .before .before .before .before .before .before .before .if1 .left)) in let e = going-end _ (c .before .before .before .before .before .before .loop .inv) (c .before .before .before .before .before .find-next .ensures) (c .before .before .before .enum-told .given .1) in success _ _ _ (c .done .ensures) (box-done (a .ty) (a .place) (a .start) (a .c .now) (a .j) _ i f (e .0) (e .1 ∙ c .before .before .if2 .left) (rw (c .before .closed .ensures)))
@@ -58,7 +58,7 @@ enum-known-next : tie.Need-enum-known-next Inv-loop μ-loop
 enum-known-next c = search needs
 
 refused-requires-3 : tie.Need-refused-requires-3 Inv-loop μ-loop
-refused-requires-3 c κs = search needs
+refused-requires-3 c κs = tt
 
 returns-4 : tie.Need-returns-4 Inv-loop μ-loop
 returns-4 c = let a = c .before .before .before .before .before .before .before .before .before .before .before .before .args in let i = c .before .before .before .before .before .before .before .before .before .before .is-image-header .ensures in let f = box-begins (a .ty) (a .place) (a .start) (a .c .now) (a .j) _ i (c .before .before .before .before .before .before .before .before .refusal .ensures) .1 (omega (arith, c .before .before .before .before .before .before .before .if1 .left)) in told _ _ _ (c .refused3 .ensures) (box-stop (a .ty) (a .place) (a .start) (a .c .now) (a .j) _ i f (going-fault _ (c .before .before .before .before .before .loop .inv) (c .before .before .before .before .find-next .ensures) (c .before .before .next .given .1)))
@@ -73,7 +73,7 @@ enum-known-answer : tie.Need-enum-known-answer Inv-loop μ-loop
 enum-known-answer c = search needs
 
 refused-requires-4 : tie.Need-refused-requires-4 Inv-loop μ-loop
-refused-requires-4 c κs = search needs
+refused-requires-4 c κs = tt
 
 returns-5 : tie.Need-returns-5 Inv-loop μ-loop
 returns-5 c = let a = c .before .before .before .before .before .before .before .before .before .before .before .before .before .before .before .before .args in let i = c .before .before .before .before .before .before .before .before .before .before .before .before .before .before .is-image-header .ensures in let f = box-begins (a .ty) (a .place) (a .start) (a .c .now) (a .j) _ i (c .before .before .before .before .before .before .before .before .before .before .before .before .refusal .ensures) .1 (omega (arith, c .before .before .before .before .before .before .before .before .before .before .before .if1 .left)) in told _ _ _ (c .refused4 .ensures) (box-stop (a .ty) (a .place) (a .start) (a .c .now) (a .j) _ i f (going-stop (here _ (c .before .before .before .before .before .before .before .before .before .loop .inv) (c .before .before .before .before .before .before .before .before .find-next .ensures) (c .before .before .before .before .before .before .next2 .given .1)) (c .before .before .before .before .read-item .ensures) (c .before .before .answer .given .1)))

@@ -12,13 +12,13 @@ cast-part-2 : tie.Need-cast-part-2
 cast-part-2 c = search needs
 
 part-requires : tie.Need-part-requires
-part-requires c κs = search needs
+part-requires c κs = tt
 
 add-start : tie.Need-add-start
 add-start c = search needs
 
 read-content-requires : tie.Need-read-content-requires
-read-content-requires c κs = search needs
+read-content-requires c κs = tt
 
 returns : tie.Need-returns
 returns c = told _ _ _ (c .read-content .ensures) (cc)

@@ -10,7 +10,7 @@ use Rattle.jp2_whole.proofs.read_picture.Statement.{statement}
 use Rattle.jp2_whole.proofs.read_picture.Tie as tie
 
 read-file-requires : tie.Need-read-file-requires
-read-file-requires c κs = search needs
+read-file-requires c κs = tt
 
 enum-known-answer : tie.Need-enum-known-answer
 enum-known-answer c = search needs
@@ -19,7 +19,7 @@ cast-t14 : tie.Need-cast-t14
 cast-t14 c = search needs
 
 opj-jp2-apply-color-postprocessing-requires : tie.Need-opj-jp2-apply-color-postprocessing-requires
-opj-jp2-apply-color-postprocessing-requires c κs = search needs
+opj-jp2-apply-color-postprocessing-requires c κs = tt
 
 returns : tie.Need-returns
 returns c = let a = c .before .before .before .before .before .before .before .before .args in shows-refused (handed (a .file .now) (a .ignore) (a .comps .now) (a .count) (a .samples .now) (a .records .now) (a .planes .now)) (a .records .now) (a .planes .now) (reading-refused (handed (a .file .now) (a .ignore) (a .comps .now) (a .count) (a .samples .now) (a .records .now) (a .planes .now)) (c .before .before .before .before .read-file .ensures) (c .before .answer .given .1))

@@ -8,13 +8,13 @@ use Rattle.jp2_write.proofs.component_bits.Statement.{statement}
 use Rattle.jp2_write.proofs.component_bits.Tie as tie
 
 component-requires : tie.Need-component-requires
-component-requires c κs = search needs
+component-requires c κs = tt
 
 sub-result : tie.Need-sub-result
 sub-result c = search needs
 
 component-requires-2 : tie.Need-component-requires-2
-component-requires-2 c κs = search needs
+component-requires-2 c κs = tt
 
 mul-result : tie.Need-mul-result
 mul-result c = search needs

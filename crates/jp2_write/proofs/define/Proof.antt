@@ -28,7 +28,7 @@ returns c =
     (e .0, e .1 ∙ ap (λ x. placed (a .d .now) (a .at) (cdef.fields x)) (row 0 _ (omega arith) refl))
 
 component-requires : tie.Need-component-requires
-component-requires c κs = search needs
+component-requires c κs = tt
 
 put-definition-requires-2 : tie.Need-put-definition-requires-2
 put-definition-requires-2 c κs = search needs

@@ -7,7 +7,7 @@ use Rattle.jp2_write.proofs.put.Statement.{statement}
 use Rattle.jp2_write.proofs.put.Tie as tie
 
 opj-write-bytes-requires : tie.Need-opj-write-bytes-requires
-opj-write-bytes-requires c κs = search needs
+opj-write-bytes-requires c κs = tt
 
 add-result : tie.Need-add-result
 add-result c = search needs

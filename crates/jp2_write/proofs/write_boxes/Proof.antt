@@ -10,7 +10,7 @@ use Rattle.jp2_write.proofs.write_boxes.Statement.{statement}
 use Rattle.jp2_write.proofs.write_boxes.Tie as tie
 
 opj-jp2-setup-encoder-requires : tie.Need-opj-jp2-setup-encoder-requires
-opj-jp2-setup-encoder-requires c κs = search needs
+opj-jp2-setup-encoder-requires c κs = tt
 
 enum-known-number : tie.Need-enum-known-number
 enum-known-number c = search needs

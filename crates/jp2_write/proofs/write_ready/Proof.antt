@@ -11,7 +11,7 @@ use Rattle.jp2_write.proofs.write_ready.Statement.{statement}
 use Rattle.jp2_write.proofs.write_ready.Tie as tie
 
 opj-jp2-default-validation-requires : tie.Need-opj-jp2-default-validation-requires
-opj-jp2-default-validation-requires c κs = search needs
+opj-jp2-default-validation-requires c κs = tt
 
 returns : tie.Need-returns
 returns c = let a = c .before .before .before .before .before .args in declined-done (ready (a .comps .now) (a .s) (a .profile .now) (a .codestream) (length (a .d .now))) (a .d .now) (ready-33 (a .comps .now) (a .s) (a .profile .now) (a .codestream) (length (a .d .now)) (without-area (a .s) (c .before .opj-jp2-default-validation .ensures) (c .if1 .taken)))

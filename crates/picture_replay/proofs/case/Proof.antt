@@ -16,7 +16,7 @@ slice-aggregate-numbers : tie.Need-slice-aggregate-numbers
 slice-aggregate-numbers c = search needs
 
 numbers-requires : tie.Need-numbers-requires
-numbers-requires c κs = search needs
+numbers-requires c κs = tt
 
 samples-requires : tie.Need-samples-requires
 samples-requires c κs = search needs

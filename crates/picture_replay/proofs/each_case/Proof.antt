@@ -18,7 +18,7 @@ number-requires : tie.Need-number-requires Inv-loop μ-loop
 number-requires c κs = search needs
 
 part-requires : tie.Need-part-requires Inv-loop μ-loop
-part-requires c κs = search needs
+part-requires c κs = tt
 
 loop-holds : tie.Need-loop-holds Inv-loop μ-loop
 loop-holds c = omega arith
@@ -27,7 +27,7 @@ bytes-requires : tie.Need-bytes-requires Inv-loop μ-loop
 bytes-requires c κs = search needs
 
 case-requires : tie.Need-case-requires Inv-loop μ-loop
-case-requires c κs = search needs
+case-requires c κs = tt
 
 count-requires : tie.Need-count-requires Inv-loop μ-loop
 count-requires c κs = search needs

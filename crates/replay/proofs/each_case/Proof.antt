@@ -15,10 +15,10 @@ abbrev μ-loop : tie.MeasureT-loop
 μ-loop list tally₀ cases rest₀ i₀ tally rest i = cases - i
 
 read-u32-requires : tie.Need-read-u32-requires Inv-loop μ-loop
-read-u32-requires c κs = search needs
+read-u32-requires c κs = tt
 
 part-requires : tie.Need-part-requires Inv-loop μ-loop
-part-requires c κs = search needs
+part-requires c κs = tt
 
 loop-holds : tie.Need-loop-holds Inv-loop μ-loop
 loop-holds c = omega arith
@@ -27,7 +27,7 @@ case-length-requires : tie.Need-case-length-requires Inv-loop μ-loop
 case-length-requires c κs = search needs
 
 case-requires : tie.Need-case-requires Inv-loop μ-loop
-case-requires c κs = search needs
+case-requires c κs = tt
 
 count-requires : tie.Need-count-requires Inv-loop μ-loop
 count-requires c κs = search needs

@@ -21,7 +21,7 @@ mul-read-u32 : tie.Need-mul-read-u32 Inv-loop μ-loop
 mul-read-u32 c = omega arith
 
 read-u32-requires : tie.Need-read-u32-requires Inv-loop μ-loop
-read-u32-requires c κs = search needs
+read-u32-requires c κs = tt
 
 put-requires : tie.Need-put-requires Inv-loop μ-loop
 put-requires c κs = search needs

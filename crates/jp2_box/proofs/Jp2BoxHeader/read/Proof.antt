@@ -4,26 +4,25 @@ use native.Mathlib.Omega.{arith}
 use mathlib.Core.Path.{refl}
 use Rattle.jp2_box.specs.Box.{childHeader}
 use Rattle.jp2_cio.proofs.Rows.{row}
-use borrow.Author.Needs.{needs}
 use Rattle.jp2_box.proofs.Jp2BoxHeader.read.Statement.{statement}
 use Rattle.jp2_box.proofs.Jp2BoxHeader.read.Tie as tie
 
 from-stream-requires : tie.Need-from-stream-requires
-from-stream-requires c κs = search needs
+from-stream-requires c κs = tt
 
 returns : tie.Need-returns
 unfolding childHeader
 returns c = row 0 _ (omega arith) (c .from-stream .ensures)
 
 read-u32-requires : tie.Need-read-u32-requires
-read-u32-requires c κs = search needs
+read-u32-requires c κs = tt
 
 returns-2 : tie.Need-returns-2
 unfolding childHeader
 returns-2 c = row 1 _ (omega arith) refl
 
 from-stream-requires-2 : tie.Need-from-stream-requires-2
-from-stream-requires-2 c κs = search needs
+from-stream-requires-2 c κs = tt
 
 returns-3 : tie.Need-returns-3
 unfolding childHeader

@@ -28,16 +28,16 @@ unfolding fitsHeader withHeader
 returns-2 c = (row 0 _ (omega arith) refl, row 0 _ (omega arith) refl)
 
 opj-write-bytes-requires : tie.Need-opj-write-bytes-requires
-opj-write-bytes-requires c κs = search needs
+opj-write-bytes-requires c κs = tt
 
 add-opj-write-bytes : tie.Need-add-opj-write-bytes
 add-opj-write-bytes c = search needs
 
 to-u32-requires : tie.Need-to-u32-requires
-to-u32-requires c κs = search needs
+to-u32-requires c κs = tt
 
 opj-write-bytes-requires-2 : tie.Need-opj-write-bytes-requires-2
-opj-write-bytes-requires-2 c κs = search needs
+opj-write-bytes-requires-2 c κs = tt
 
 same-length : tie.Need-same-length
 same-length c = search needs

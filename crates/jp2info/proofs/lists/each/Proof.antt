@@ -22,7 +22,7 @@ bytes-requires : tie.Need-bytes-requires Inv-loop μ-loop
 bytes-requires c κs = search needs
 
 front-requires : tie.Need-front-requires Inv-loop μ-loop
-front-requires c κs = search needs
+front-requires c κs = tt
 
 sub-rest : tie.Need-sub-rest Inv-loop μ-loop
 sub-rest c = omega arith

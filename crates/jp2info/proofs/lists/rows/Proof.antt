@@ -16,10 +16,10 @@ loop-holds : tie.Need-loop-holds Inv-loop μ-loop
 loop-holds c = tt
 
 row-requires : tie.Need-row-requires Inv-loop μ-loop
-row-requires c κs = search needs
+row-requires c κs = tt
 
 front-requires : tie.Need-front-requires Inv-loop μ-loop
-front-requires c κs = search needs
+front-requires c κs = tt
 
 sub-rest : tie.Need-sub-rest Inv-loop μ-loop
 sub-rest c = omega arith

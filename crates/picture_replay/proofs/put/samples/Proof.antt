@@ -15,7 +15,7 @@ abbrev μ-loop : tie.MeasureT-loop
 μ-loop listed d₀ numbers i₀ d i = length d - i
 
 numbers-requires : tie.Need-numbers-requires Inv-loop μ-loop
-numbers-requires c κs = search needs
+numbers-requires c κs = tt
 
 loop-holds : tie.Need-loop-holds Inv-loop μ-loop
 loop-holds c = omega arith
@@ -24,7 +24,7 @@ expected-requires : tie.Need-expected-requires Inv-loop μ-loop
 expected-requires c κs = search needs
 
 signed-requires : tie.Need-signed-requires Inv-loop μ-loop
-signed-requires c κs = search needs
+signed-requires c κs = tt
 
 mul-t5 : tie.Need-mul-t5 Inv-loop μ-loop
 mul-t5 c = omega arith
