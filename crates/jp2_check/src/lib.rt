@@ -2,10 +2,9 @@
 ghost use Prim.Native.Nat.{ℕ, _+_, _*_, _≤_, _<_};
 ghost use mathlib.Core.Path.{_≡_};
 ghost use lib.ListN.{length, getD};
-ghost use Rattle.jp2_cio.specs.Table.{_≠?_, _<?_, _and_, holds};
+ghost use Rattle.jp2_cio.specs.Table.{_≠?_, _and_, holds};
 ghost use Rattle.jp2_picture.specs.Channels.{lowest, direct, corrected};
 ghost use Rattle.jp2_picture.specs.Check.{misnamed, undefined, mismapped};
-ghost use Rattle.jp2_picture.specs.Finish.{outsideFile, paletteOutside, mappingsOutside, definitionsOutside};
 ghost use Rattle.jp2_check.specs.Checked.{checked};
 ghost use Rattle.jp2_check.specs.Parts.{Inside, unmarked, mark, Markable, Named};
 use jp2_record::Jp2;
@@ -16,86 +15,6 @@ use jp2_record::Span;
 pub enum Checked {
     Passed(bool),
     Refused(u32, u32),
-}
-
-// Whether so many bytes at a place do not lie in f.
-fn outside(f: &[u8], place: usize, size: usize) -> bool
-    ensures { λ r. ⌜ r ≡ holds (length (now (f .entry)) <? place + size) ⌝ }
-{
-    if f.len() < size {
-        return true;
-    }
-    if f.len() - size < place {
-        return true;
-    }
-    false
-}
-
-// Whether a palette is one that no reader gives, or does not lie in f.
-fn palette_outside(f: &[u8], p: Palette) -> bool
-    ensures { λ r. ⌜ r ≡ holds (paletteOutside (now (f .entry)) p) ⌝ }
-{
-    let place = p.place;
-    let entries = p.entries as usize;
-    let columns = p.columns as usize;
-    if columns == 0 {
-        return false;
-    }
-    if entries == 0 {
-        return true;
-    }
-    if 1024 < entries {
-        return true;
-    }
-    if 255 < columns {
-        return true;
-    }
-    let row = jp2_palette::row_bytes(jp2_cio::part(f, place, f.len()), 0, columns as u8);
-    outside(f, place, columns + entries * row)
-}
-
-// Whether a list of mappings is one that no reader gives for a palette of so many columns, or does not lie in f.
-fn mappings_outside(f: &[u8], l: Span, columns: u32) -> bool
-    ensures { λ r. ⌜ r ≡ holds (mappingsOutside (now (f .entry)) l columns) ⌝ }
-{
-    let place = l.place;
-    let count = l.count;
-    if count == 0 {
-        return false;
-    }
-    if count != columns as usize {
-        return true;
-    }
-    outside(f, place, 4 * count)
-}
-
-// Whether a list of definitions is one that no reader gives, or does not lie in f.
-fn definitions_outside(f: &[u8], l: Span) -> bool
-    ensures { λ r. ⌜ r ≡ holds (definitionsOutside (now (f .entry)) l) ⌝ }
-{
-    let place = l.place;
-    let count = l.count;
-    if count == 0 {
-        return false;
-    }
-    if 65535 < count {
-        return true;
-    }
-    outside(f, place, 6 * count)
-}
-
-// Whether the record has a palette, mappings or definitions that no reader gives, or that do not lie in f.
-pub fn outside_file(f: &[u8], m: Jp2) -> bool
-    ensures { λ r. ⌜ r ≡ holds (outsideFile (now (f .entry)) m) ⌝ }
-{
-    let lists = m.lists;
-    if palette_outside(f, lists.pclr) {
-        return true;
-    }
-    if mappings_outside(f, lists.cmap, lists.pclr.columns) {
-        return true;
-    }
-    definitions_outside(f, lists.cdef)
 }
 
 // Whether definition j names a channel, or a colour, that is not below k.
@@ -262,7 +181,7 @@ pub fn opj_jp2_check_color(f: &[u8], m: Jp2, n: u32) -> Checked
     if 16384 < n {
         return Checked::Refused(29, 0);
     }
-    if outside_file(f, m) {
+    if jp2_outside::outside_file(f, m) {
         return Checked::Refused(29, 0);
     }
     let k = jp2_comps::channel_count(m, n);

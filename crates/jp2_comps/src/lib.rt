@@ -1,10 +1,8 @@
 // The components of a picture (`opj_image_comp` of image.rs), thirteen numbers each in one lent list, and the component that a channel shows.
 ghost use mathlib.Core.Path.{_≡_};
-ghost use Rattle.jp2_cio.specs.Table.{holds};
 ghost use Rattle.jp2_picture.specs.Image.{image, component, size};
-ghost use Rattle.jp2_picture.specs.Channels.{lowest, channels, componentOf};
-ghost use Rattle.jp2_picture.specs.Finish.{outsideLists};
-ghost use Rattle.jp2_comps.specs.Alone.{listed, mappings, planeOutside};
+ghost use Rattle.jp2_picture.specs.Channels.{channels, componentOf};
+ghost use Rattle.jp2_comps.specs.Alone.{listed, mappings};
 use jp2_record::Jp2;
 use jp2_record::Span;
 
@@ -24,50 +22,6 @@ pub fn size(comps: &[u32], c: u32) -> u64
         return 0;
     }
     component(comps, c, 3) as u64 * component(comps, c, 2) as u64
-}
-
-// Whether the plane of component c has samples that do not lie in a list of the given length.
-fn plane_outside(comps: &[u32], c: u32, len: usize) -> bool
-    ensures { λ r. ⌜ r ≡ holds (planeOutside (listed (now (comps .entry))) len c) ⌝ }
-{
-    let first = component(comps, c, 11) as usize;
-    if first == 4294967295 {
-        return false;
-    }
-    if len < first {
-        return true;
-    }
-    ((len - first) as u64) < size(comps, c)
-}
-
-// The first of the components whose plane does not lie in a list of samples of the given length; the count where each does.
-fn first_outside(comps: &[u32], count: u32, len: usize) -> u32
-    ensures { λ r. ⌜ r ≡ lowest (planeOutside (listed (now (comps .entry))) len) count ⌝ }
-{
-    let mut c: u32 = 0;
-    while c < count {
-        if plane_outside(comps, c, len) {
-            return c;
-        }
-        c += 1;
-    }
-    count
-}
-
-// Whether there are too many records or samples, or a record or plane lies outside its list.
-pub fn outside_lists(comps: &[u32], count: u32, samples: &[i32]) -> bool
-    ensures { λ r. ⌜ r ≡ holds (outsideLists (image (now (comps .entry)) count (now (samples .entry)))) ⌝ }
-{
-    if 16384 < count {
-        return true;
-    }
-    if comps.len() < 13 * count as usize {
-        return true;
-    }
-    if 4294967294 < samples.len() {
-        return true;
-    }
-    first_outside(comps, count, samples.len()) < count
 }
 
 // The component of channel c, by the mappings l in the file f.

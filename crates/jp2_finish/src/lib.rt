@@ -268,10 +268,10 @@ pub fn opj_jp2_apply_color_postprocessing(
     ensures { λ _. ⌜ now (records .exit) ≡ recordsAfter (finish (now (f .entry)) m ignore (image (now (comps .entry)) count (now (samples .entry))) (length (now (records .entry))) (length (now (planes .entry)))) (now (records .entry)) ⌝ }
     ensures { λ _. ⌜ now (planes .exit) ≡ samplesAfter (finish (now (f .entry)) m ignore (image (now (comps .entry)) count (now (samples .entry))) (length (now (records .entry))) (length (now (planes .entry)))) (now (planes .entry)) ⌝ }
 {
-    if jp2_comps::outside_lists(comps, count, samples) {
+    if jp2_outside::outside_lists(comps, count, samples) {
         return Finished::Refused(29, 0);
     }
-    if jp2_check::outside_file(f, m) {
+    if jp2_outside::outside_file(f, m) {
         return Finished::Refused(29, 0);
     }
     let k = jp2_expand::counted(ignore, m);

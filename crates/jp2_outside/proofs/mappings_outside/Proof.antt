@@ -1,4 +1,4 @@
--- `jp2_check::mappings_outside` meets its contract.
+-- `jp2_outside::mappings_outside` meets its contract.
 -- Assumes nothing.
 use native.Mathlib.Omega.{arith}
 use borrow.Author.Needs.{needs}
@@ -9,8 +9,8 @@ use lib.ListN.{length}
 use Rattle.jp2_cio.specs.Table.{_<?_}
 use Rattle.jp2_picture.specs.Finish.{mappingsOutside}
 use Rattle.jp2_comps.proofs.Answers.{shown, same}
-use Rattle.jp2_check.proofs.mappings_outside.Statement.{statement}
-use Rattle.jp2_check.proofs.mappings_outside.Tie as tie
+use Rattle.jp2_outside.proofs.mappings_outside.Statement.{statement}
+use Rattle.jp2_outside.proofs.mappings_outside.Tie as tie
 
 returns : tie.Need-returns
 returns c = let a = c .before .before .args in shown false (mappingsOutside (a .f .now) (a .l) (a .columns)) (omega arith)

@@ -1,4 +1,4 @@
--- `jp2_comps::first_outside` meets its contract.
+-- `jp2_outside::first_outside` meets its contract.
 -- Assumes nothing.
 use native.Mathlib.Omega.{arith}
 use Prim.Native.Nat.{ℕ, _-_, _≤_, _<_}
@@ -7,10 +7,11 @@ use mathlib.Core.Bool.{true, false}
 use borrow.Author.Count.{below-more}
 use Rattle.jp2_cio.proofs.Rows.{Says}
 use Rattle.jp2_picture.proofs.Indices.{none-is, lowest-first}
-use Rattle.jp2_comps.specs.Alone.{listed, planeOutside}
+use Rattle.jp2_comps.specs.Alone.{listed}
+use Rattle.jp2_outside.specs.Parts.{planeOutside}
 use Rattle.jp2_comps.proofs.Answers.{said}
-use Rattle.jp2_comps.proofs.first_outside.Statement.{statement}
-use Rattle.jp2_comps.proofs.first_outside.Tie as tie
+use Rattle.jp2_outside.proofs.first_outside.Statement.{statement}
+use Rattle.jp2_outside.proofs.first_outside.Tie as tie
 
 abbrev Inv-loop : tie.InvT-loop
 Inv-loop comps count len c₀ c = (c ≤ count) × ((i : ℕ) → i < c → Says false (planeOutside (listed comps) len i))

@@ -1,4 +1,4 @@
--- `jp2_check::palette_outside` meets its contract.
+-- `jp2_outside::palette_outside` meets its contract.
 -- Assumes nothing.
 use native.Mathlib.Omega.{arith}
 use borrow.Author.Needs.{needs}
@@ -10,9 +10,9 @@ use Rattle.jp2_cio.specs.Table.{_<?_}
 use Rattle.jp2_palette.proofs.Entries.{rows-most}
 use Rattle.jp2_picture.specs.Finish.{paletteOutside}
 use Rattle.jp2_comps.proofs.Answers.{shown, same}
-use Rattle.jp2_check.proofs.Columns.{rows-file}
-use Rattle.jp2_check.proofs.palette_outside.Statement.{statement}
-use Rattle.jp2_check.proofs.palette_outside.Tie as tie
+use Rattle.jp2_outside.proofs.Columns.{rows-file}
+use Rattle.jp2_outside.proofs.palette_outside.Statement.{statement}
+use Rattle.jp2_outside.proofs.palette_outside.Tie as tie
 
 cast-entries : tie.Need-cast-entries
 cast-entries c = search needs

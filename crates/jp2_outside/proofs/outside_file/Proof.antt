@@ -1,10 +1,10 @@
--- `jp2_check::outside_file` meets its contract.
+-- `jp2_outside::outside_file` meets its contract.
 -- Assumes nothing.
 use Rattle.jp2_cio.specs.Table.{_or_}
 use Rattle.jp2_picture.specs.Finish.{paletteOutside, mappingsOutside, definitionsOutside}
 use Rattle.jp2_comps.proofs.Answers.{or-taken, or-left}
-use Rattle.jp2_check.proofs.outside_file.Statement.{statement}
-use Rattle.jp2_check.proofs.outside_file.Tie as tie
+use Rattle.jp2_outside.proofs.outside_file.Statement.{statement}
+use Rattle.jp2_outside.proofs.outside_file.Tie as tie
 
 palette-outside-requires : tie.Need-palette-outside-requires
 palette-outside-requires c κs = tt

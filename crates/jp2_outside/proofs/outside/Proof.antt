@@ -1,4 +1,4 @@
--- `jp2_check::outside` meets its contract.
+-- `jp2_outside::outside` meets its contract.
 -- Assumes nothing.
 use native.Mathlib.Omega.{arith}
 use borrow.Author.Needs.{needs}
@@ -7,8 +7,8 @@ use mathlib.Core.Bool.{true, false}
 use lib.ListN.{length}
 use Rattle.jp2_cio.specs.Table.{_<?_}
 use Rattle.jp2_comps.proofs.Answers.{shown}
-use Rattle.jp2_check.proofs.outside.Statement.{statement}
-use Rattle.jp2_check.proofs.outside.Tie as tie
+use Rattle.jp2_outside.proofs.outside.Statement.{statement}
+use Rattle.jp2_outside.proofs.outside.Tie as tie
 
 returns : tie.Need-returns
 returns c = let a = c .before .args in shown true (length (a .f .now) <? a .place + a .size) (omega arith)

@@ -1,15 +1,16 @@
--- `jp2_comps::plane_outside` meets its contract.
+-- `jp2_outside::plane_outside` meets its contract.
 -- Assumes nothing.
 use Prim.Native.Nat.{_-_}
 use native.Mathlib.Omega.{arith}
 use borrow.Author.Needs.{needs}
 use mathlib.Core.Bool.{true, false}
 use Rattle.jp2_cio.specs.Table.{_<?_}
-use Rattle.jp2_comps.specs.Alone.{listed, planeOutside}
+use Rattle.jp2_comps.specs.Alone.{listed}
+use Rattle.jp2_outside.specs.Parts.{planeOutside}
 use Rattle.jp2_comps.proofs.Answers.{shown, same}
 use Rattle.jp2_comps.proofs.Planes.{size-area}
-use Rattle.jp2_comps.proofs.plane_outside.Statement.{statement}
-use Rattle.jp2_comps.proofs.plane_outside.Tie as tie
+use Rattle.jp2_outside.proofs.plane_outside.Statement.{statement}
+use Rattle.jp2_outside.proofs.plane_outside.Tie as tie
 
 component-requires : tie.Need-component-requires
 component-requires c κs = tt

@@ -1,4 +1,4 @@
--- `jp2_comps::outside_lists` meets its contract.
+-- `jp2_outside::outside_lists` meets its contract.
 -- Assumes nothing.
 use native.Mathlib.Omega.{arith}
 use borrow.Author.Needs.{needs}
@@ -6,9 +6,9 @@ use mathlib.Core.Bool.{true}
 use Rattle.jp2_picture.specs.Image.{image}
 use Rattle.jp2_cio.specs.Table.{_<?_}
 use Rattle.jp2_picture.specs.Finish.{outsideLists}
 use Rattle.jp2_comps.proofs.Answers.{shown, same}
-use Rattle.jp2_comps.proofs.outside_lists.Statement.{statement}
-use Rattle.jp2_comps.proofs.outside_lists.Tie as tie
+use Rattle.jp2_outside.proofs.outside_lists.Statement.{statement}
+use Rattle.jp2_outside.proofs.outside_lists.Tie as tie
 
 returns : tie.Need-returns
 returns c = let a = c .before .before .args in shown true (outsideLists (image (a .comps .now) (a .count) (a .samples .now))) (λ few. absurd (omega arith))
