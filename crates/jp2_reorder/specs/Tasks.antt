@@ -4,15 +4,11 @@ use mathlib.Core.Path.{_≡_}
 use mathlib.Core.List.{List}
 use lib.ListN.{length}
 use Rattle.jp2_record.specs.declared.Span.{Span}
-use Rattle.jp2_record.specs.declared.Answer.{Answer}
 use Rattle.jp2_cdef.specs.Flat.{answered, afterwards, reordered}
 use Rattle.jp2_reorder.specs.Steps.{list}
-use Rattle.jp2_reorder.specs.declared.Task.{Task}
+use Rattle.jp2_task.specs.declared.Task.{Task}
 
--- nothing to do
-abbrev pub idle : Answer → Task
-idle a = record { answer = a; place = 0; n = 0; count = 0 }
-
+-- what is known of a task that a check gives
 pub record Tasked (f : List ℕ) (cdef : Span) (m n : ℕ) (r : Task) : Type 0 where
   pub few : r .n ≤ 16384
   pub within : r .n ≤ m

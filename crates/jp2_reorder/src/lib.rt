@@ -6,7 +6,6 @@ ghost use lib.ListN.{getD, length, set};
 ghost use Rattle.jp2_cdef.specs.Flat.{answered, afterwards, reordered};
 ghost use Rattle.jp2_reorder.specs.Comps.{markOf, none, numbered, swapped};
 ghost use Rattle.jp2_reorder.specs.Steps.{Decided, Seated, Started, Stepped, list};
-ghost use Rattle.jp2_reorder.specs.Tasks.{Tasked, idle};
 use jp2_record::Answer;
 use jp2_record::Span;
 
@@ -186,61 +185,12 @@ fn begin() -> [u32; 16384]
     list
 }
 
-// What a run is to do, and what is answered.
-pub struct Task {
-    pub answer: Answer,
-    pub place: usize,
-    pub n: usize,
-    pub count: usize,
-}
-
-fn nothing(answer: Answer) -> Task
-    ensures { λ r. ⌜ r ≡ idle answer ⌝ }
-{
-    Task {
-        answer: answer,
-        place: 0,
-        n: 0,
-        count: 0,
-    }
-}
-
-// Checks what is handed in: m records, of which n are in the picture.
-fn check(f: &[u8], cdef: Span, m: usize, n: u32) -> Task
-    ensures { λ r. ⌜ Tasked (now (f .entry)) cdef m n r ⌝ }
-{
-    if 16384 < n {
-        return nothing(Answer::Refused(29, 0));
-    }
-    if m < n as usize {
-        return nothing(Answer::Refused(29, 0));
-    }
-    if 65535 < cdef.count {
-        return nothing(Answer::Refused(29, 0));
-    }
-    if f.len() < 6 * cdef.count {
-        return nothing(Answer::Refused(29, 0));
-    }
-    if f.len() - 6 * cdef.count < cdef.place {
-        return nothing(Answer::Refused(29, 0));
-    }
-    if n == 0 {
-        return nothing(Answer::Done);
-    }
-    Task {
-        answer: Answer::Done,
-        place: cdef.place,
-        n: n as usize,
-        count: cdef.count,
-    }
-}
-
 // Puts the first n records of cs into the order of the definition list cdef of the file f. The answer, and the records' numbers afterwards, are what jp2_cdef says of them.
 pub fn opj_jp2_apply_cdef(f: &[u8], cdef: Span, cs: &mut [Comp], n: u32) -> Answer
     ensures { λ r. ⌜ (r ≡ answered (now (f .entry)) cdef n (numbered (now (cs .entry)))) × (numbered (now (cs .exit)) ≡ afterwards (now (f .entry)) cdef n (numbered (now (cs .entry)))) ⌝ }
 {
     let m = cs.len();
-    let t = check(f, cdef, m, n);
+    let t = jp2_task::check(f, cdef, m, n);
     let mut seat = begin();
     let mut held = begin();
     reorder(cs, &mut seat, &mut held, f, t.place, t.n, t.count);

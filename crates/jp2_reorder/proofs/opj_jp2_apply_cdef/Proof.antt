@@ -58,15 +58,16 @@ use Rattle.jp2_reorder.specs.Comps.{numbered}
 use Rattle.jp2_reorder.specs.Steps.{list}
 use Rattle.jp2_reorder.specs.Tasks.{Tasked}
 use Rattle.jp2_reorder.specs.declared.Comp.{Comp}
-use Rattle.jp2_reorder.specs.declared.Task.{Task}
+use Rattle.jp2_task.specs.declared.Task.{Task}
+use Rattle.jp2_task.specs.Task.{task}
 use Rattle.jp2_reorder.proofs.Comp as T
-use Rattle.jp2_reorder.proofs.Task as K
-use Rattle.jp2_reorder.proofs.Task.Laws as K′
-use Rattle.jp2_reorder.proofs.Checking.{begun, together}
-use Rattle.jp2_reorder.proofs.check as check′
-use Rattle.jp2_reorder.proofs.check.Symbol as check-def
-use Rattle.jp2_reorder.proofs.check.Symbol.{name as #check}
-use Rattle.jp2_reorder.proofs.check.Met as check-thm
+use Rattle.jp2_task.proofs.Task as K
+use Rattle.jp2_task.proofs.Task.Laws as K′
+use Rattle.jp2_reorder.proofs.Checking.{tasked, begun, together}
+use Rattle.jp2_task.proofs.check as check′
+use Rattle.jp2_task.proofs.check.Symbol as check-def
+use Rattle.jp2_task.proofs.check.Symbol.{name as #check}
+use Rattle.jp2_task.proofs.check.Met as check-thm
 use Rattle.jp2_reorder.proofs.begin as begin′
 use Rattle.jp2_reorder.proofs.begin.Symbol as begin-def
 use Rattle.jp2_reorder.proofs.begin.Symbol.{name as #begin}
@@ -276,8 +277,8 @@ module _ {M : Type 1} (𝓤 : URA M) (H : Heap 𝓤) (A : Atoms 𝓤) (W : Given
         move ! (0 ∷ 5 ∷ 4 ∷ 3 ∷ []) $ cut ((‵ (flft κ q) ⊛ ‵ ftrue) ∷ ‵ file-own ∷ ‵ (P.the-row .own cdef (pvals cdef)) ∷ ‵ (owns (u32 ∷ []) (n, tt) (vint w32 n ∷ [], tt)) ∷ []) (raw (Check 𝓤 H A at-mem run .pre to-check) ∷ []) _ (asks-check (room .0)) $
         calls-at ! fm (Check 𝓤 H A at-mem run) known-check to-check (and-then ! (load ! (from ! (stop !)) (look ! 34 refl)) (and-then ! (load ! (from ! (stop !)) (look ! 32 refl)) (and-then ! (load ! (from ! (stop !)) (look ! 26 refl)) (and-then ! (load ! (from ! (stop !)) (look ! 28 refl)) (no-more !))))) (λ u.
         use1 W (later (some (λ (r : Task). ((‵ (flft κ q) ⊛ ‵ ftrue) ⊛ ‵ (K.the-row .own r (u ∷ []))) ⊛ raw (ensured 𝓤 H A check′.ended (check′.clauses 𝓤 H A at-mem run) (κ, tt) to-check-args tt r)))) (id⊢ 𝓤 _) $ await ! tt $ pick ! (λ r.
-        split ! $ move ! (1 ∷ []) $ use1 W (some (λ (ws : Checked). ‵ (lasts check′.ended (κ, tt) to-check-args ws) ⊛ raw (fact 𝓤 (Tasked (f .now) cdef m n r)))) (id⊢ 𝓤 _) $ pick ! (λ ws. split ! $
-        move ! (1 ∷ []) $ heard ! (Tasked (f .now) cdef m n r) (λ e. drop ! $ split ! $ move ! (1 ∷ []) $ peeks ! K.the-row (Is K.the-row) (shows 𝓤 H A K.the-row) r (u ∷ []) (λ is. drop ! $
+        split ! $ move ! (1 ∷ []) $ use1 W (some (λ (ws : Checked). ‵ (lasts check′.ended (κ, tt) to-check-args ws) ⊛ raw (fact 𝓤 (r ≡ task (f .now) cdef m n)))) (id⊢ 𝓤 _) $ pick ! (λ ws. split ! $
+        move ! (1 ∷ []) $ heard ! (r ≡ task (f .now) cdef m n) (λ e. drop ! $ split ! $ move ! (1 ∷ []) $ peeks ! K.the-row (Is K.the-row) (shows 𝓤 H A K.the-row) r (u ∷ []) (λ is. drop ! $
         land ! (from ! (stop !)) (init ! 24 refl (LL.lawful K.the-type K′.the-laws 𝓤 H A W .typed r _ is .0)) $
         rewrite ! 24 (λ (w : Val). ‵ (fat fullShare K′.mir l₆ 0 w)) (ap only (LL.tells K.the-type K′.the-laws r _ is)) refl $
         -- `begin`
@@ -310,7 +311,7 @@ module _ {M : Type 1} (𝓤 : URA M) (H : Heap 𝓤) (A : Atoms 𝓤) (W : Given
         move ! (24 ∷ 3 ∷ []) $ use2 W (‵ (cells (mem u32) g₂ l₈ 0)) (laid 𝓤 H A W g₂ l₈) $ lft-new ! tt (λ ν₂. move ! (1 ∷ []) $ use1 W (later (some (λ (δ : GName). ‵ (Lent l₈ ν₂ δ g₂ (length g₂)) ⊛ ‵ (flent (ν₂ ∷ []) (Held u32 (length g₂) l₈ 0 δ))))) (lends-slice 𝓤 H A W u32 (named 0) (ν₂ ∷ []) g₂ l₈ 0 (subst (Room u32) (sym (e₂ .0)) places-fit)) $ await ! tt $ pick ! (λ δ₂. split ! $
         rewrite ! 0 (λ (k : ℕ). ‵ (Lent l₈ ν₂ δ₂ g₂ k)) (e₂ .0) refl $
         -- `reorder`
-        move ! (7 ∷ 8 ∷ 5 ∷ 3 ∷ 2 ∷ 0 ∷ 6 ∷ 9 ∷ []) $ cut (‵ (flft κ₁ q₁) ∷ ‵ records-own ∷ ‵ (flft (ν₁ ∷ []) fullShare) ∷ ‵ (Lent l₇ ν₁ δ₁ g₁ 16384) ∷ ‵ (flft (ν₂ ∷ []) fullShare) ∷ ‵ (Lent l₈ ν₂ δ₂ g₂ 16384) ∷ (‵ (flft κ q) ⊛ ‵ ftrue) ∷ ‵ file-own ∷ []) (raw (Reorder 𝓤 H A at-mem run .pre (to-run r l₇ l₈ ν₁ ν₂ δ₁ δ₂ g₁ g₂)) ∷ []) _ (asks-run r l₇ l₈ ν₁ ν₂ δ₁ δ₂ g₁ g₂ e e₁ e₂ (place-fits r u is) (n-fits r u is) (count-fits r u is)) $
+        move ! (7 ∷ 8 ∷ 5 ∷ 3 ∷ 2 ∷ 0 ∷ 6 ∷ 9 ∷ []) $ cut (‵ (flft κ₁ q₁) ∷ ‵ records-own ∷ ‵ (flft (ν₁ ∷ []) fullShare) ∷ ‵ (Lent l₇ ν₁ δ₁ g₁ 16384) ∷ ‵ (flft (ν₂ ∷ []) fullShare) ∷ ‵ (Lent l₈ ν₂ δ₂ g₂ 16384) ∷ (‵ (flft κ q) ⊛ ‵ ftrue) ∷ ‵ file-own ∷ []) (raw (Reorder 𝓤 H A at-mem run .pre (to-run r l₇ l₈ ν₁ ν₂ δ₁ δ₂ g₁ g₂)) ∷ []) _ (asks-run r l₇ l₈ ν₁ ν₂ δ₁ δ₂ g₁ g₂ (tasked (f .now) cdef m n e) e₁ e₂ (place-fits r u is) (n-fits r u is) (count-fits r u is)) $
         calls-at ! fm (Reorder 𝓤 H A at-mem run) known-run (to-run r l₇ l₈ ν₁ ν₂ δ₁ δ₂ g₁ g₂) (and-then ! (load ! (from ! (stop !)) (look ! 11 refl)) (and-then ! (load ! (from ! (stop !)) (look ! 7 refl)) (and-then ! (load ! (from ! (stop !)) (look ! 3 refl)) (and-then ! (load ! (from ! (stop !)) (look ! 31 refl)) (and-then ! (load ! (from ! (fld ! refl (stop !))) (look-in ! 21 (sub ! 1 refl (whole !)))) (and-then ! (load ! (from ! (fld ! refl (stop !))) (look-in ! 21 (sub ! 2 refl (whole !)))) (and-then ! (load ! (from ! (fld ! refl (stop !))) (look-in ! 21 (sub ! 3 refl (whole !)))) (no-more !)))))))) (λ v.
         use1 W (later (some (λ (z : Unit {0}). ((‵ (flft κ₁ q₁) ⊛ ‵ (flft (ν₁ ∷ []) fullShare) ⊛ ‵ (flft (ν₂ ∷ []) fullShare) ⊛ ‵ (flft κ q) ⊛ ‵ ftrue) ⊛ ‵ (Nothing .own z (v ∷ []))) ⊛ raw (ensured 𝓤 H A run′.ended (run′.clauses 𝓤 H A at-mem run) (κ₁, (ν₁ ∷ [], (ν₂ ∷ [], (κ, tt)))) (run-args r l₇ l₈ ν₁ ν₂ δ₁ δ₂ g₁ g₂) tt z)))) (id⊢ 𝓤 _) $ await ! tt $ pick ! (λ z.
         split ! $ move ! (1 ∷ []) $ use1 W (some (λ (ws : Lasts). ‵ (lasts run′.ended (κ₁, (ν₁ ∷ [], (ν₂ ∷ [], (κ, tt)))) (run-args r l₇ l₈ ν₁ ν₂ δ₁ δ₂ g₁ g₂) ws) ⊛ raw (fact 𝓤 (Left r ws)))) (id⊢ 𝓤 _) $ pick ! (λ zs. split ! $
@@ -322,7 +323,7 @@ module _ {M : Type 1} (𝓤 : URA M) (H : Heap 𝓤) (A : Atoms 𝓤) (W : Given
         assigns ! (of-opd ! (load ! (from ! (fld ! refl (stop !))) (look-in ! 24 (sub ! 0 refl (whole !))))) (from ! (stop !)) (init ! 36 refl (EL.lawful S.the-type S′.the-laws 𝓤 H A W tt .typed (r .answer) _ (answer-is r u is) .0)) $
         returns ! (look ! 36 refl) $ forget ! 6 refl $ forget ! 8 refl $ forget ! 10 refl $ forget ! 12 refl $ forget ! 14 refl $ forget ! 16 refl $ forget ! 18 refl $ forget ! 20 refl $ forget ! 1 refl $ forget ! 0 refl $ forget ! 24 refl $ forget ! 26 refl $ forget ! 28 refl $ forget ! 30 refl $ forget ! 32 refl $ forget ! 34 refl $ forget ! 36 refl $
         move ! (36 ∷ 37 ∷ []) $ free1 ! $ move ! (34 ∷ 35 ∷ []) $ free1 ! $ move ! (32 ∷ 33 ∷ []) $ free1 ! $ move ! (30 ∷ 31 ∷ []) $ free1 ! $ move ! (28 ∷ 29 ∷ []) $ free1 ! $ move ! (26 ∷ 27 ∷ []) $ free1 ! $ move ! (24 ∷ 25 ∷ []) $ free1 ! $ move ! (0 ∷ 23 ∷ []) $ free1 ! $ move ! (0 ∷ 21 ∷ []) $ free1 ! $ move ! (18 ∷ 19 ∷ []) $ free1 ! $ move ! (16 ∷ 17 ∷ []) $ free1 ! $ move ! (14 ∷ 15 ∷ []) $ free1 ! $ move ! (12 ∷ 13 ∷ []) $ free1 ! $ move ! (10 ∷ 11 ∷ []) $ free1 ! $ move ! (8 ∷ 9 ∷ []) $ free1 ! $ move ! (6 ∷ 7 ∷ []) $ free1 ! $ move ! (4 ∷ 5 ∷ []) $ free1 ! $ free0 ! $
-        keep ! (1 ∷ 0 ∷ 3 ∷ []) $ by ! (exits r (zs .0) (together (f .now) cdef n r (cs .now) (zs .0) e did) long₀ (answer-is r u is))))))))))))))))))))))))))))))))))))))))))))))
+        keep ! (1 ∷ 0 ∷ 3 ∷ []) $ by ! (exits r (zs .0) (together (f .now) cdef n r (cs .now) (zs .0) (tasked (f .now) cdef m n e) did) long₀ (answer-is r u is))))))))))))))))))))))))))))))))))))))))))))))
 
 module _ {M : Type 1} (𝓤 : URA M) (H : Heap 𝓤) (A : Atoms 𝓤) (W : Given 𝓤 H A) (at-mem : Memory → SProp 𝓤) (run : Routine → Fun 𝓤) where
   walks : (C : Calls 𝓤 H) (Λ : Loops 𝓤 H) → FmC 𝓤 H (W .laws) C → Triple 𝓤 (C #check) (Check 𝓤 H A at-mem run) → Triple 𝓤 (C #begin) (Begin 𝓤 H A at-mem run) → Triple 𝓤 (C #run) (Reorder 𝓤 H A at-mem run)
@@ -345,6 +346,6 @@ opj-jp2-apply-cdef-spec 𝓤 H 𝓜 𝓖 𝓡 =
     entered 𝓤 H (tripleOf 𝓤 H (𝓖 .A) this.signature (this.spec 𝓤 H (𝓖 .A) (𝓜 .mem) (𝓡 .run)))
     (tables 𝓤 H 𝓜 𝓡 code.env .C) (tables 𝓤 H 𝓜 𝓡 code.env .Λ) #this code.function (code.unfolded 𝓤 H 𝓜 𝓡)
     (meets 𝓤 H (𝓖 .A) (givenOf 𝓤 H 𝓜 𝓖) (𝓜 .mem) (𝓡 .run) (tablesOf 𝓤 H 𝓜 (tables 𝓤 H 𝓜 𝓡 code.env))
-    (cited 𝓤 H (Check 𝓤 H (𝓖 .A) (𝓜 .mem) (𝓡 .run)) 𝓜 𝓡 code.env #check check-def.routine code.calls-jp2-reorder·check (check-thm.met 𝓤 H 𝓜 𝓖 𝓡))
+    (cited 𝓤 H (Check 𝓤 H (𝓖 .A) (𝓜 .mem) (𝓡 .run)) 𝓜 𝓡 code.env #check check-def.routine code.calls-jp2-task·check (check-thm.met 𝓤 H 𝓜 𝓖 𝓡))
     (cited 𝓤 H (Begin 𝓤 H (𝓖 .A) (𝓜 .mem) (𝓡 .run)) 𝓜 𝓡 code.env #begin begin-def.routine code.calls-jp2-reorder·begin (begin-thm.met 𝓤 H 𝓜 𝓖 𝓡))
     (cited 𝓤 H (Reorder 𝓤 H (𝓖 .A) (𝓜 .mem) (𝓡 .run)) 𝓜 𝓡 code.env #run run-def.routine code.calls-jp2-reorder·reorder (run-thm.met 𝓤 H 𝓜 𝓖 𝓡)))
