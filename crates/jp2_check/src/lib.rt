@@ -8,7 +8,6 @@ ghost use Rattle.jp2_picture.specs.Check.{misnamed, undefined, mismapped};
 ghost use Rattle.jp2_check.specs.Checked.{checked};
 ghost use Rattle.jp2_check.specs.Parts.{Inside, unmarked, mark, Markable, Named};
 use jp2_record::Jp2;
-use jp2_record::Palette;
 use jp2_record::Span;
 
 // What the checks answer: whether the mappings are to be corrected, or document 01's number and the index.

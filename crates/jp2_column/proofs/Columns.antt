@@ -11,21 +11,13 @@ use lib.IntN.{ℤ}
 use lib.ListN.{length, getD, take, drop, length-append, List·getD-append}
 use lib.Seq.{getD-at}
 use Rattle.jp2_cio.specs.Number.{number, part, least}
-use Rattle.jp2_cio.proofs.Rows.{row, each}
+use Rattle.jp2_cio.proofs.Numbers.{least-low}
 use Rattle.jp2_record.specs.declared.Palette.{Palette}
 use Rattle.jp2_palette.specs.Pclr.{entryBytes, rowBytes, B, rowSize, Cji}
 use Rattle.jp2_palette.proofs.Entries.{entry-most, row-most}
-use Rattle.jp2_picture.specs.Image.{first}
 use Rattle.jp2_picture.specs.Samples.{displayed}
 use Rattle.jp2_picture.proofs.Rests.{rest-length, rest-number, rest-row}
 use Rattle.jp2_column.specs.Column.{column}
-
--- the lesser of two is at most the second, and is the first where that is at most the second
-pub least-most : {r : ℕ} (m n : ℕ) → r ≡ least m n → r ≤ n
-least-most {r} m n e = rw e (each (λ k. k ≤ n) _ ((λ h. omega arith), λ h. omega arith))
-
-least-first : (m n : ℕ) → m ≤ n → least m n ≡ m
-least-first m n l = each (λ k. k ≡ m) _ ((λ h. refl), λ h. omega arith)
 
 -- a file from a place on
 abbrev pub restOf : List ℕ → ℕ → List ℕ
@@ -64,7 +56,7 @@ entry-read f p i j {wide} {row} {off} {at} {r} w s o a e =
     let m : j * row ≡ j * rowSize f p = rows-are f p j s in
     let b : wide ≡ entryBytes (B f p i) = w ∙ ap entryBytes (number-rest f (p .place) i 1) in
     let k : p .place + at ≡ p .place + p .columns + j * rowSize f p + rowBytes f (p .place) i = omega arith in
-    let l : least wide 4 ≡ entryBytes (B f p i) = least-first wide 4 (rw b (entry-most (B f p i))) ∙ b in
+    let l : least wide 4 ≡ entryBytes (B f p i) = least-low wide 4 (rw b (entry-most (B f p i))) ∙ b in
     e ∙ ap (number (restOf f (p .place)) at) l ∙ number-rest f (p .place) at (entryBytes (B f p i)) ∙ ap (λ x. number f x (entryBytes (B f p i))) k
 
 module _ (f : List ℕ) (p : Palette) (i : ℕ) where

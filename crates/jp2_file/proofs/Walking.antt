@@ -5,8 +5,8 @@ use native.Mathlib.Omega.{arith}
 use mathlib.Core.Path.{_≡_, refl, sym, ap, _∙_}
 use mathlib.Core.List.{List}
 use lib.ListN.{length, take, drop, length-drop}
-use lib.Seq.{take-all}
 use Rattle.jp2_cio.proofs.Rows.{row}
+use Rattle.jp2_cio.proofs.Numbers.{rest-is}
 use Rattle.jp2_box.proofs.Headers.{header-least}
 use Rattle.jp2_box.specs.declared.Jp2BoxHeader.{Jp2BoxHeader}
 use Rattle.jp2_record.specs.declared.Jp2.{Jp2}
@@ -74,19 +74,15 @@ module _ {w : Walked} {at : ℕ} {c : List ℕ} {k : Jp2} (g : Going w at c k) w
       pub going-fits : (8 ≤ h .length) × (h .length ≤ length c)
       going-fits = let p = going-heads in omega (arith, header-least c, p .long, p .least, p .most)
 
-      -- the rest of c, as the code has it
-      rest : take (length c - h .length) (drop (h .length) c) ≡ drop (h .length) c
-      rest = take-all (length c - h .length) (drop (h .length) c) (rw length-drop (omega arith))
-
       pub going-less : length (take (length c - h .length) (drop (h .length) c)) < length c
-      going-less = let q = going-fits in rw (rest, length-drop) (omega arith)
+      going-less = let q = going-fits in rw (rest-is c (h .length), length-drop) (omega arith)
 
       module _ {o : Outcome} (d : o ≡ answer k (outer (firstBox at c) k)) where
         pub going-down : {n p : ℕ} → o .answer ≡ Refused n p → turnedDown n p ≡ w
         going-down a = runs-to (λ n. found-tells at c k n some e f .3 ∙ rw (answer-refused k (outer (firstBox at c) k) d a))
 
         pub going-on : o .answer ≡ Done → Going w (at + h .length) (take (length c - h .length) (drop (h .length) c)) (o .jp2)
-        going-on a = rw rest (with-fuel (λ (n : ℕ). length c ≤ n → run (split n at c) k ≡ w → Going w (at + h .length) (drop (h .length) c) (o .jp2)) on (g .enough) (g .same))
+        going-on a = rw (rest-is c (h .length)) (with-fuel (λ (n : ℕ). length c ≤ n → run (split n at c) k ≡ w → Going w (at + h .length) (drop (h .length) c) (o .jp2)) on (g .enough) (g .same))
           where
             on : (n : ℕ) → length c ≤ suc n → run (split (suc n) at c) k ≡ w → Going w (at + h .length) (drop (h .length) c) (o .jp2)
             on n l s =

@@ -1,5 +1,5 @@
 -- What stands at a place of a file, and what its boxes come to by their kind, for the walk's own functions.
-use Prim.Native.Nat.{ℕ, _+_, _/_, _%_, _≤_}
+use Prim.Native.Nat.{ℕ, _+_, _≤_}
 use mathlib.Core.Path.{_≡_}
 use mathlib.Core.List.{List, []}
 use lib.ListN.{length}
@@ -9,7 +9,7 @@ use Rattle.jp2_box.specs.Box.{TBox, headerLength, boxLength, headerOf}
 use Rattle.jp2_kind.specs.declared.Jp2BoxType.{Jp2BoxType}
 use Rattle.jp2_box.specs.declared.Jp2BoxHeader.{Jp2BoxHeader}
 use Rattle.jp2_record.specs.declared.Jp2.{Jp2}
-use Rattle.jp2_record.specs.State.{withUnknown}
+use Rattle.jp2_record.specs.State.{bit, withUnknown}
 use Rattle.jp2_record.specs.Answer.{Result, accepted}
 use Rattle.jp2_walk.specs.Split.{Box}
 use Rattle.jp2_walk.specs.HeaderBox.{headerBox}
@@ -49,7 +49,7 @@ isRead kind = flag (isFileHeader kind) or flag (isImageHeader kind)
 
 -- a box of jp2h that comes before the header bit is set
 abbrev pub isEarly : Jp2BoxType → ℕ → Test
-isEarly kind state = flag (isImageHeader kind) and state / 4 % 2 =? 0
+isEarly kind state = flag (isImageHeader kind) and bit 4 state =? 0
 
 -- a box of the file that is not jP or ftyp, by its kind
 unfoldable pub inner : Jp2BoxType → ℕ → ℕ → List ℕ → Jp2 → Result

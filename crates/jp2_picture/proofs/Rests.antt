@@ -6,14 +6,15 @@ use native.Mathlib.Omega.{arith}
 use mathlib.Core.Path.{_≡_, refl, ap, _∙_}
 use mathlib.Core.List.{List}
 use lib.ListN.{length, drop, length-drop}
-use lib.Seq.{take-all, getD-drop}
+use lib.Seq.{getD-drop}
 use Rattle.jp2_cio.specs.Number.{number, part}
+use Rattle.jp2_cio.proofs.Numbers.{rest-is}
 use Rattle.jp2_palette.specs.Pclr.{rowBytes}
 
 module _ (f : List ℕ) (k : ℕ) where
   pub rest-drop : part f k (length f) ≡ drop k f
   unfolding part
-  rest-drop = take-all (length f - k) (drop k f) (rw length-drop (omega arith))
+  rest-drop = rest-is f k
 
   pub rest-length : length (part f k (length f)) ≡ length f - k
   rest-length = ap length rest-drop ∙ length-drop k f

@@ -15,7 +15,8 @@ use Rattle.jp2_picture.specs.Channels.{componentOf, typeOf}
 use Rattle.jp2_picture.specs.Samples.{floored, held, lookup, valueOf, channelSamples, valueFor}
 use Rattle.jp2_cio.specs.Number.{placed}
 use Rattle.jp2_column.specs.Column.{column}
-use Rattle.jp2_column.proofs.Columns.{least-most, length-column, column-at}
+use Rattle.jp2_cio.proofs.Numbers.{least-most}
+use Rattle.jp2_column.proofs.Columns.{length-column, column-at}
 use Rattle.jp2_plane.specs.Plane.{plane, entryFor}
 
 map-same : {g h : ℤ → ℤ} → ((s : ℤ) → g s ≡ h s) → (l : List ℤ) → map g l ≡ map h l

@@ -6,8 +6,8 @@ use mathlib.Core.Path.{_≡_, refl, sym}
 use mathlib.Core.Bool.{Bool}
 use mathlib.Core.List.{List, [], _++_}
 use lib.ListN.{length, take, drop, length-drop}
-use lib.Seq.{take-all}
 use Rattle.jp2_cio.proofs.Rows.{row, each}
+use Rattle.jp2_cio.proofs.Numbers.{rest-is}
 use Rattle.jp2_quote.specs.Quote.{together, front, quotes, quoted}
 use Rattle.jp2_text.proofs.Puts.{Puts, Left, start, turn, done}
 use Rattle.jp2_quote.proofs.Utf8s.{character-fits}
@@ -19,10 +19,6 @@ together-some s = each (λ (n : ℕ). 0 < n) _ ((λ t. omega arith), λ f. omega
 pub together-fits : (s : List ℕ) → 0 < length s → together s ≤ length s
 unfolding together
 together-fits s h = each (λ (n : ℕ). n ≤ length s) _ ((λ t. character-fits s), λ f. omega arith)
-
--- what is left of a text behind its first bytes, as the code has it
-rest-is : (s : List ℕ) (n : ℕ) → take (length s - n) (drop n s) ≡ drop n s
-rest-is s n = take-all (length s - n) (drop n s) (rw length-drop (omega arith))
 
 pub rest-less : (s : List ℕ) (n : ℕ) → n ≡ together s → 0 < length s → length (take (length s - n) (drop n s)) < length s
 rest-less s n t h = let some = together-some s in rw (rest-is s n, length-drop) (omega arith)

@@ -4,18 +4,22 @@ use Rattle.jp2_cio.specs.Table.{_=?_, otherwise, _⇒_∣_, table}
 use Rattle.jp2_record.specs.declared.Jp2.{Jp2}
 use Rattle.jp2_record.specs.Record.{withState, withImgstate}
 
+-- the bit of weight w
+abbrev pub bit : ℕ → ℕ → ℕ
+bit w state = state / w % 2
+
 abbrev pub signatureBit : Jp2 → ℕ
 signatureBit j = j .status .state % 2
 
 abbrev pub fileTypeBit : Jp2 → ℕ
-fileTypeBit j = j .status .state / 2 % 2
+fileTypeBit j = bit 2 (j .status .state)
 
 abbrev pub headerBit : Jp2 → ℕ
-headerBit j = j .status .state / 4 % 2
+headerBit j = bit 4 (j .status .state)
 
 -- a state with the bit of weight w
 unfoldable pub withBit : ℕ → ℕ → ℕ
-withBit w state = table (state / w % 2 =? 0 ⇒ state + w ∣ otherwise state)
+withBit w state = table (bit w state =? 0 ⇒ state + w ∣ otherwise state)
 
 -- JP2_STATE_UNKNOWN and JP2_IMG_STATE_UNKNOWN: all 31 low bits
 abbrev pub unknown : ℕ → ℕ

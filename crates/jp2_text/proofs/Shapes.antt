@@ -6,12 +6,14 @@ use native.Mathlib.Numerals.{add-one}
 use mathlib.Core.Path.{_≡_, refl, sym}
 use mathlib.Core.List.{List, [], _∷_, _++_}
 use lib.Dec.{eqb}
-use lib.ListN.{length, getD, take, drop, length-drop, drop-of-length-le}
-use lib.Seq.{drop-cons, drop-drop, drop-nil, take-all, take-nil}
+use lib.ListN.{length, getD, take, drop, drop-of-length-le}
+use lib.Seq.{drop-cons, drop-drop, drop-nil, take-nil}
 use Rattle.jp2_cio.specs.Table.{table}
 use Rattle.jp2_cio.specs.Number.{number, least}
 use Rattle.jp2_palette.specs.Pclr.{entryBytes}
 use Rattle.jp2_cio.proofs.Rows.{row, each, either}
+use Rattle.jp2_cio.proofs.Numbers.{least-low, rest-is}
+use Rattle.jp2_palette.proofs.Entries.{entry-most}
 use Rattle.jp2_text.specs.Text.{decimal, filled, behind, joined}
 use Rattle.jp2_text.specs.Parts.{letter, marks, gap}
 use Rattle.jp2_text.specs.Row.{values}
@@ -74,24 +76,14 @@ pub joined-past : (between numbers : List ℕ) (i : ℕ) → length numbers ≤ 
 joined-past between numbers i h = rw (drop-of-length-le numbers h) (listed-none i between)
 
 -- the values of a palette's row, column by column
-least-low : (n k : ℕ) → n ≤ k → least n k ≡ n
-least-low n k h = each (λ (m : ℕ). m ≡ n) _ ((λ t. refl), λ f. omega arith)
-
-entry-small : (b : ℕ) → entryBytes b ≤ 4
-unfolding entryBytes
-entry-small b = each (λ (n : ℕ). n ≤ 4) _ ((λ t. omega arith), λ f. omega arith)
-
-entry-most : (b : ℕ) → least (entryBytes b) 4 ≡ entryBytes b
-entry-most b = least-low (entryBytes b) 4 (entry-small b)
-
-pub least-within : (n k : ℕ) → least n k ≤ k
-least-within n k = each (λ (m : ℕ). m ≤ k) _ ((λ t. omega arith), λ f. omega arith)
+entry-all : (b : ℕ) → least (entryBytes b) 4 ≡ entryBytes b
+entry-all b = least-low (entryBytes b) 4 (entry-most b)
 
 -- what is left behind n bytes, or behind as many as there are
-rest-is : (n : ℕ) (s : List ℕ) → take (length s - least n (length s)) (drop (least n (length s)) s) ≡ drop n s
-rest-is n s =
+rest-least : (n : ℕ) (s : List ℕ) → take (length s - least n (length s)) (drop (least n (length s)) s) ≡ drop n s
+rest-least n s =
     each (λ (m : ℕ). take (length s - m) (drop m s) ≡ drop n s) _ (
-      (λ t. take-all (length s - n) (drop n s) (rw length-drop (omega arith))),
+      (λ t. rest-is s n),
       λ f. rw (drop-of-length-le s f, drop-of-length-le s {i = length s} (omega arith)) (take-nil (length s - length s)),
     )
 
@@ -100,7 +92,7 @@ pub row-turn : (between depths c : List ℕ) (i : ℕ) {n r size : ℕ} → i < 
 unfolding values
 row-turn between depths c i {n} {r} {size} h z e t =
     let b = getD depths i 0 in
-    rw (drop-turn depths i h, e, t, rest-is size c, z, entry-most b) (listed-turn i between (number c 0 (entryBytes b)) (values (drop (i + 1) depths) (drop (entryBytes b) c)))
+    rw (drop-turn depths i h, e, t, rest-least size c, z, entry-all b) (listed-turn i between (number c 0 (entryBytes b)) (values (drop (i + 1) depths) (drop (entryBytes b) c)))
 
 pub row-past : (between depths c : List ℕ) (i : ℕ) → length depths ≤ i → listed i between (values (drop i depths) c) ≡ []
 unfolding values

@@ -11,6 +11,7 @@ use lib.Seq.{take-all}
 use Rattle.jp2_cio.specs.Number.{part}
 use Rattle.jp2_cio.specs.Table.{pick}
 use Rattle.jp2_cio.proofs.Rows.{true-false}
+use Rattle.jp2_cio.proofs.Numbers.{rest-is}
 use Rattle.jp2_kind.specs.Kind.{kindOf, numberOf}
 use Rattle.jp2_box.specs.Box.{TBox, boxLength}
 use Rattle.jp2_kind.specs.declared.Jp2BoxType.{Jp2BoxType}
@@ -61,10 +62,6 @@ and-swap : (a b d : Bool) → ((a && b) && d) ≡ (b && (a && d))
 and-swap false true d = refl
 and-swap false false d = refl
 and-swap true b d = refl
-
--- the rest of c, as the code has it
-rest : (c : List ℕ) (n : ℕ) → take (length c - n) (drop n c) ≡ drop n c
-rest c n = take-all (length c - n) (drop n c) (rw length-drop (omega arith))
 
 part-all : (c : List ℕ) → part c 0 (length c) ≡ c
 unfolding part
@@ -138,11 +135,11 @@ module _ {kind : Jp2BoxType} {place : ℕ} {w : Result} {l : Bool} {at : ℕ} {c
   going-less true g {r} {b} e f =
       let q : loneItem kind place c ≡ b = cc in
       let n : length c ≡ b .size = ap (λ (x : Item). x .size) q in
-      rw (rest c (b .size), length-drop) (omega arith)
+      rw (rest-is c (b .size), length-drop) (omega arith)
   going-less false g {r} {b} e f =
       let t = next-tells at c e f in
       let n : b .size ≡ boxLength c = ap (λ (x : Item). x .size) (t .1) in
-      rw (rest c (b .size), length-drop) (omega (arith, header-least c, sound c (t .2) .least))
+      rw (rest-is c (b .size), length-drop) (omega (arith, header-least c, sound c (t .2) .least))
 
   module _ {b : Item} (h : Here kind place w l at c lacks k b) {o : Outcome} (d : o ≡ answer k (readItem b at c k)) where
     pub going-stop : {n p : ℕ} → o .answer ≡ Refused n p → w ≡ refused n p
@@ -150,4 +147,4 @@ module _ {kind : Jp2BoxType} {place : ℕ} {w : Result} {l : Bool} {at : ℕ} {c
 
     pub going-on : {lack : Bool} → o .answer ≡ Done → lack ≡ (not (eqb (numberOf (b .ty)) 0x69686472) && lacks)
         → Going kind place w l false (at + b .size) (take (length c - b .size) (drop (b .size) c)) lack (o .jp2)
-    going-on a q = rw (rest c (b .size)) (h .on (answer-done k (readItem b at c k) d a) q)
+    going-on a q = rw (rest-is c (b .size)) (h .on (answer-done k (readItem b at c k) d a) q)

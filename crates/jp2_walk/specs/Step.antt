@@ -1,5 +1,5 @@
 -- What the functions of the loop answer: the box that is read next, and the status before the first and after the last.
-use Prim.Native.Nat.{ℕ, _+_, _/_, _%_}
+use Prim.Native.Nat.{ℕ, _+_}
 use mathlib.Core.Bool.{Bool, true, false}
 use mathlib.Core.List.{List}
 use lib.ListN.{length}
@@ -11,7 +11,7 @@ use Rattle.jp2_kind.specs.declared.Jp2BoxType.{Jp2BoxType}
 use Rattle.jp2_record.specs.declared.Jp2.{Jp2}
 use Rattle.jp2_record.specs.declared.Status.{Status}
 use Rattle.jp2_record.specs.Record.{status}
-use Rattle.jp2_record.specs.State.{withBit}
+use Rattle.jp2_record.specs.State.{bit, withBit}
 use Rattle.jp2_record.specs.Answer.{Result}
 use Rattle.jp2_walk.specs.Child.{reader}
 use Rattle.jp2_walk.specs.declared.Item.{Item}
@@ -45,7 +45,7 @@ abbrev pub readItem : Item → ℕ → List ℕ → Jp2 → Result
 readItem b at c k = reader (b .ty) (b .place) (at + b .head) (part c (b .head) (b .size)) k
 
 unfoldable pub refusal : Bool → ℕ → List ℕ → ℕ → ℕ
-refusal alone start c state = table (4294967295 <? start + length c ⇒ 4 ∣ flag alone ⇒ 0 ∣ state / 2 % 2 =? 0 ⇒ 9 ∣ otherwise 0)
+refusal alone start c state = table (4294967295 <? start + length c ⇒ 4 ∣ flag alone ⇒ 0 ∣ bit 2 state =? 0 ⇒ 9 ∣ otherwise 0)
 
 abbrev pub opened : Bool → Status → Status
 opened true s = s

@@ -8,7 +8,7 @@ use lib.ListN.{getD, set}
 use mir.Facts.{toZ-ofZ}
 use borrow.Author.Needs.{sfits-of}
 use Rattle.jp2_plane.specs.Plane.{entryFor}
-use Rattle.jp2_column.proofs.Columns.{least-most}
+use Rattle.jp2_cio.proofs.Numbers.{least-most}
 use borrow.Author.Needs.{needs}
 use Rattle.jp2_plane.proofs.look_up.Statement.{statement}
 use Rattle.jp2_plane.proofs.look_up.Tie as tie

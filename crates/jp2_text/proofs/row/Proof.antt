@@ -6,7 +6,8 @@ use lib.ListN.{length, drop}
 use Rattle.jp2_text.specs.Text.{joined}
 use Rattle.jp2_text.specs.Row.{values}
 use Rattle.jp2_text.proofs.Puts.{Left, start, turn, done}
-use Rattle.jp2_text.proofs.Shapes.{listed, least-within, row-turn, row-past}
+use Rattle.jp2_cio.proofs.Numbers.{least-most}
+use Rattle.jp2_text.proofs.Shapes.{listed, row-turn, row-past}
 use Rattle.jp2_text.proofs.row.Statement.{statement}
 use Rattle.jp2_text.proofs.row.Tie as tie
 
@@ -35,13 +36,13 @@ reach-requires : tie.Need-reach-requires Inv-loop μ-loop
 reach-requires c κs = tt
 
 sub-rest : tie.Need-sub-rest Inv-loop μ-loop
-sub-rest c = let e = c .reach .ensures in let w = least-within (c .before .before .before .before .before .before .entry-bytes .result) (length (c .before .before .before .before .before .before .before .before .before .loop .rest .now)) in omega arith
+sub-rest c = omega (arith, least-most (c .before .before .before .before .before .before .entry-bytes .result) (length (c .before .before .before .before .before .before .before .before .before .loop .rest .now)) (c .reach .ensures))
 
 part-rest-start : tie.Need-part-rest-start Inv-loop μ-loop
-part-rest-start c = let e = c .reach .ensures in let w = least-within (c .before .before .before .before .before .before .entry-bytes .result) (length (c .before .before .before .before .before .before .before .before .before .loop .rest .now)) in omega arith
+part-rest-start c = omega (arith, least-most (c .before .before .before .before .before .before .entry-bytes .result) (length (c .before .before .before .before .before .before .before .before .before .loop .rest .now)) (c .reach .ensures))
 
 part-rest-end : tie.Need-part-rest-end Inv-loop μ-loop
-part-rest-end c = let e = c .reach .ensures in let w = least-within (c .before .before .before .before .before .before .entry-bytes .result) (length (c .before .before .before .before .before .before .before .before .before .loop .rest .now)) in omega arith
+part-rest-end c = omega (arith, least-most (c .before .before .before .before .before .before .entry-bytes .result) (length (c .before .before .before .before .before .before .before .before .before .loop .rest .now)) (c .reach .ensures))
 
 add-i : tie.Need-add-i Inv-loop μ-loop
 add-i c = omega arith
