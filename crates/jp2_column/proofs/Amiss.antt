@@ -7,8 +7,8 @@ use mathlib.Core.List.{List}
 use lib.IntN.{ℤ}
 use borrow.Author.Tests.{not-true, not-false}
 use Rattle.jp2_cio.specs.Number.{placed}
-use Rattle.jp2_cio.specs.Table.{Test}
-use Rattle.jp2_cio.proofs.Rows.{Says, true-false, each, row}
+use Rattle.jp2_cio.specs.Table.{Test, _or_, holds}
+use Rattle.jp2_cio.proofs.Rows.{Says, true-false, said, each, row}
 use Rattle.jp2_column.specs.Put.{done, put}
 
 -- what a refusal, or its absence, tells of what is amiss
@@ -19,6 +19,12 @@ done-true t {b} e f = each (λ b. b ≡ true → Says false t) _ ((λ h g. true-
 pub done-false : (t : Test) {b : Bool} → b ≡ done t → not b ≡ true → Says true t
 unfolding done
 done-false t {b} e f = each (λ b. b ≡ false → Says true t) _ ((λ h g. h), λ h g. true-false g) (sym e ∙ not-true b f)
+
+-- an answer that says that the second of two things is amiss, where the first is not
+pub done-not : (s t : Test) (b : Bool) → Says false s → b ≡ holds t → not b ≡ done (s or t)
+unfolding done
+done-not s t true f e = row 0 _ (λ _. said true t (sym e)) refl
+done-not s t false f e = row 1 _ ((f, said false t (sym e)), tt) refl
 
 -- where nothing is amiss they are put
 pub put-done : (t : Test) (d : List ℤ) (at : ℕ) (xs : List ℤ) {e : List ℤ} → Says false t → e ≡ put t d at xs → e ≡ placed d at xs

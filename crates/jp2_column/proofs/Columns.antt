@@ -6,28 +6,31 @@ use native.Mathlib.Numerals.{add-one}
 use native.Mathlib.Omega.{arith}
 use mathlib.Core.Path.{_≡_, refl, sym, ap, _∙_}
 use mathlib.Core.Logic.{⊎-elim}
+use mathlib.Core.Bool.{false}
 use mathlib.Core.List.{List, [], _∷_}
 use lib.IntN.{ℤ}
 use lib.ListN.{length, getD, take, drop, length-append, List·getD-append}
 use lib.Seq.{getD-at}
 use Rattle.jp2_cio.specs.Number.{number, part, least}
+use Rattle.jp2_cio.proofs.Rows.{Says}
 use Rattle.jp2_cio.proofs.Numbers.{least-low}
 use Rattle.jp2_record.specs.declared.Palette.{Palette}
 use Rattle.jp2_palette.specs.Pclr.{entryBytes, rowBytes, B, rowSize, Cji}
 use Rattle.jp2_palette.proofs.Entries.{entry-most, row-most}
 use Rattle.jp2_picture.specs.Samples.{displayed}
-use Rattle.jp2_picture.proofs.Rests.{rest-length, rest-number, rest-row}
-use Rattle.jp2_column.specs.Column.{column}
+use Rattle.jp2_picture.proofs.Rests.{rest-number, rest-row}
+use Rattle.jp2_column.specs.Column.{noColumn, column}
+
+-- a column that is there: its palette is one that a reader gives, and lies in the file
+pub there : (f : List ℕ) (p : Palette) (i : ℕ) → Says false (noColumn f p i)
+    → (p .entries ≡ 0 → ⊥) × (p .entries ≤ 1024) × (p .columns ≤ 255) × (i < p .columns) × (p .place + p .columns + p .entries * rowSize f p ≤ length f)
+there f p i h = let k = h .1 (λ z. omega (arith, h .0)) in (k .0, k .1 .0, k .1 .1 .0, omega (arith, h .0), k .1 .1 .1)
 
 -- a file from a place on
 abbrev pub restOf : List ℕ → ℕ → List ℕ
 restOf f k = take (length f - k) (drop k f)
 
 module _ (f : List ℕ) (k : ℕ) where
-  pub length-rest : length (restOf f k) ≡ length f - k
-  unfolding part
-  length-rest = rest-length f k
-
   pub row-rest : (n : ℕ) → rowBytes (restOf f k) 0 n ≡ rowBytes f k n
   unfolding part
   row-rest n = rest-row f k n

@@ -1,18 +1,16 @@
 -- Document 01, "Colour, palette, order": a column of a palette that is kept in the file.
-use Prim.Native.Nat.{ℕ, zero, suc, _+_, _*_}
+use Prim.Native.Nat.{ℕ, zero, suc, _+_}
 use mathlib.Core.List.{List, [], _∷_, _++_}
 use lib.IntN.{ℤ}
-use lib.ListN.{length}
-use Rattle.jp2_cio.specs.Table.{Test, _=?_, _<?_, _or_}
+use Rattle.jp2_cio.specs.Table.{Test, _<?_, _or_}
 use Rattle.jp2_record.specs.declared.Palette.{Palette}
-use Rattle.jp2_palette.specs.Pclr.{Cji, rowSize}
+use Rattle.jp2_palette.specs.Pclr.{Cji}
 use Rattle.jp2_picture.specs.Samples.{displayed}
+use Rattle.jp2_picture.specs.Finish.{paletteOutside}
 
--- the file f has no column i of a palette: it is not one that a reader gives, or does not lie in the file
+-- the file f has no column i of a palette: there are fewer, or the palette is one that 29 refuses
 abbrev pub noColumn : List ℕ → Palette → ℕ → Test
-noColumn f p i =
-    p .entries =? 0 or 1024 <? p .entries or 255 <? p .columns or p .columns <? i + 1
-    or length f <? p .place + p .columns + p .entries * rowSize f p
+noColumn f p i = p .columns <? i + 1 or paletteOutside f p
 
 -- the first n entries of a palette's column i, as samples
 unfoldable pub column : List ℕ → Palette → ℕ → ℕ → List ℤ

@@ -8,36 +8,14 @@ ghost use Rattle.jp2_column.specs.Put.{done, put};
 ghost use Rattle.jp2_column.specs.Column.{noColumn, column};
 use jp2_record::Palette;
 
-// Whether column i of the palette is there, and the palette lies in the file f.
+// Whether column i of the palette is there.
 fn has_column(f: &[u8], p: Palette, i: u32) -> bool
     ensures { λ r. ⌜ r ≡ done (noColumn (now (f .entry)) p i) ⌝ }
 {
-    let place = p.place;
-    let entries = p.entries as usize;
-    let columns = p.columns as usize;
-    if entries == 0 {
+    if p.columns <= i {
         return false;
     }
-    if 1024 < entries {
-        return false;
-    }
-    if 255 < columns {
-        return false;
-    }
-    if columns <= i as usize {
-        return false;
-    }
-    if f.len() < place {
-        return false;
-    }
-    let rest = &f[place..];
-    if rest.len() < columns {
-        return false;
-    }
-    if rest.len() - columns < entries * jp2_palette::row_bytes(rest, 0, columns as u8) {
-        return false;
-    }
-    true
+    !jp2_outside::palette_outside(f, p)
 }
 
 // The entries of the palette's column i, as samples, at the front of out.

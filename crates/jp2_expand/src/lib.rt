@@ -1,7 +1,9 @@
 // What the channels of a picture are (`opj_jp2_apply_pclr` of jp2.rs): the record that counts, and a channel's type and the thirteen numbers of its record.
 ghost use mathlib.Core.Path.{_≡_};
-ghost use Rattle.jp2_picture.specs.Finish.{counted};
-ghost use Rattle.jp2_expand.specs.Channel.{typeAt, expandedAt};
+ghost use Rattle.jp2_cio.specs.Table.{flag};
+ghost use Rattle.jp2_picture.specs.Channels.{typeBy};
+ghost use Rattle.jp2_picture.specs.Finish.{counted, expandedFrom};
+ghost use Rattle.jp2_comps.specs.Alone.{listed};
 use jp2_record::Jp2;
 use jp2_record::Palette;
 use jp2_record::Span;
@@ -30,7 +32,7 @@ pub fn counted(ignore: u32, m: Jp2) -> Jp2
 
 // The type of channel c: 1 where it is looked up in the palette.
 pub fn type_of(f: &[u8], l: Span, correct: bool, c: u32) -> u32
-    ensures { λ r. ⌜ r ≡ typeAt (now (f .entry)) l correct c ⌝ }
+    ensures { λ r. ⌜ r ≡ typeBy (now (f .entry)) l (flag correct) c ⌝ }
 {
     if correct {
         return 1;
@@ -53,7 +55,7 @@ pub fn expanded_number(
     start: u32,
     k: u32,
 ) -> u32
-    ensures { λ n. ⌜ n ≡ expandedAt (now (f .entry)) p mappings (now (comps .entry)) c r start k ⌝ }
+    ensures { λ n. ⌜ n ≡ expandedFrom (now (f .entry)) p mappings (listed (now (comps .entry))) c r start k ⌝ }
 {
     if k == 11 {
         if jp2_comps::component(comps, r, 11) == 4294967295 {

@@ -8,13 +8,13 @@ use mathlib.Core.Bool.{Bool, false}
 use mathlib.Core.List.{List, _++_}
 use lib.IntN.{ℤ}
 use lib.ListN.{length, length-append, length-drop}
-use Rattle.jp2_cio.specs.Table.{_=?_, _and_, holds, table}
+use Rattle.jp2_cio.specs.Table.{_=?_, flag, _and_, holds, table}
 use Rattle.jp2_cio.proofs.Rows.{Says}
 use Rattle.jp2_record.specs.declared.Jp2.{Jp2}
 use Rattle.jp2_order.specs.Flat.{flat}
 use Rattle.jp2_order.proofs.Flats.{flat-length, flat-next}
 use Rattle.jp2_picture.specs.Image.{Image, image, first, size}
-use Rattle.jp2_picture.specs.Channels.{mapped, corrected, channels, componentOf, typeOf}
+use Rattle.jp2_picture.specs.Channels.{mapped, corrected, channels, componentOf, typeBy, typeOf}
 use Rattle.jp2_picture.specs.Samples.{channelSamples, packed, startOf}
 use Rattle.jp2_picture.specs.Finish.{expanded}
 use Rattle.jp2_picture.proofs.Indices.{decide}
@@ -26,7 +26,6 @@ use Rattle.jp2_plane.proofs.Columns.{channel-is}
 use Rattle.jp2_cio.proofs.Placing.{placed-after}
 use Rattle.jp2_comps.specs.Alone.{listed, mappings}
 use Rattle.jp2_finish.specs.Answers.{fronted}
-use Rattle.jp2_expand.specs.Channel.{typeAt, expandedAt}
 use Rattle.jp2_finish.specs.Parts.{recordAt, samplesAt, Packable, Tested, Roomy, unordered}
 
 -- a list at the front of a destination that is long enough leaves its length
@@ -59,16 +58,16 @@ module _ (f : List ℕ) (m : Jp2) (comps : List ℕ) (count : ℕ) (samples : Li
 
   -- a channel's record, with its samples where those before it end
   record-is : (c : ℕ) {at : ℕ} → at ≡ startOf f m i c → recordAt f (m .lists .pclr) (m .lists .cmap .count) comps c (r c) at ≡ flat (λ _. expanded f m i c) 13
-  unfolding expanded expandedAt componentOf
+  unfolding expanded componentOf
   record-is c e = rw e
 
   module _ (correct : Bool) (flags : correct ≡ holds (mapped m and corrected f (m .lists .cmap) count)) where
     -- a channel's type and its samples
-    type-is : (c : ℕ) → typeAt f (m .lists .cmap) correct c ≡ typeOf f m count c
-    unfolding typeAt typeOf table
+    type-is : (c : ℕ) → typeBy f (m .lists .cmap) (flag correct) c ≡ typeOf f m count c
+    unfolding typeOf table
     type-is c = rw flags
 
-    samples-are : (c : ℕ) → samplesAt f (m .lists .pclr) comps samples c (r c) (typeAt f (m .lists .cmap) correct c) ≡ channelSamples f m i c
+    samples-are : (c : ℕ) → samplesAt f (m .lists .pclr) comps samples c (r c) (typeBy f (m .lists .cmap) (flag correct) c) ≡ channelSamples f m i c
     unfolding componentOf size
     samples-are c = rw (type-is c) (channel-is f m i c)
 
@@ -78,16 +77,15 @@ module _ (f : List ℕ) (m : Jp2) (comps : List ℕ) (count : ℕ) (samples : Li
       within c l = component-inside f m i (kept f m (tested .file)) (tested .mapping) c (rw (← all) l) (tested .lists)
 
       -- a channel of type 1 has a mapping, and so a column
-      column-there : (c : ℕ) → c < n → typeAt f (m .lists .cmap) correct c ≡ 1 → Says false (noColumn f (m .lists .pclr) c)
+      column-there : (c : ℕ) → c < n → typeBy f (m .lists .cmap) (flag correct) c ≡ 1 → Says false (noColumn f (m .lists .pclr) c)
       column-there c l t =
           decide (m .lists .cmap .count =? 0)
           (λ z. absurd (omega (arith, type-is c, plain-type m f c count z)))
           (λ some.
           let e = tested .file .1 .0 some .0 in
-          let p = tested .file .0 (λ z. some (omega arith)) in
-          (p .0, (p .1 .0, (p .1 .1 .0, (omega (arith, mapped-channels m count some), p .1 .1 .1)))))
+          (omega (arith, mapped-channels m count some), tested .file .0))
 
-      pub packable : (room c at : ℕ) → c < n → at ≡ startOf f m i c → startOf f m i n ≤ room → Packable f (m .lists .pclr) comps samples c (r c) (typeAt f (m .lists .cmap) correct c) room at
+      pub packable : (room c at : ℕ) → c < n → at ≡ startOf f m i c → startOf f m i n ≤ room → Packable f (m .lists .pclr) comps samples c (r c) (typeBy f (m .lists .cmap) (flag correct) c) room at
       unfolding startOf
       packable room c at l e h =
           record {
@@ -126,7 +124,7 @@ module _ (f : List ℕ) (m : Jp2) (comps : List ℕ) (count : ℕ) (samples : Li
 
       pub packed-next : c < n → {records′ : List ℕ} {planes′ : List ℤ} {at′ : ℕ} → at′ ≡ at + size (listed comps) (r f m comps count samples c) →
           records′ ≡ placed records (13 * c) (recordAt f (m .lists .pclr) (m .lists .cmap .count) comps c (r f m comps count samples c) at) →
-          planes′ ≡ placed planes at (samplesAt f (m .lists .pclr) comps samples c (r f m comps count samples c) (typeAt f (m .lists .cmap) correct c)) →
+          planes′ ≡ placed planes at (samplesAt f (m .lists .pclr) comps samples c (r f m comps count samples c) (typeBy f (m .lists .cmap) (flag correct) c)) →
           Packed f m j records₀ planes₀ records′ planes′ (c + 1) at′
       unfolding packed startOf
       packed-next l {records′} {planes′} {at′} a u v =

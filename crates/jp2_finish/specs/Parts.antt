@@ -14,17 +14,16 @@ use Rattle.jp2_picture.specs.Image.{Image, image, component, first, none, size}
 use Rattle.jp2_picture.specs.Channels.{channels}
 use Rattle.jp2_picture.specs.Samples.{packed, startOf, valueFor}
 use Rattle.jp2_picture.specs.Check.{mismapped}
-use Rattle.jp2_picture.specs.Finish.{Finishing, outsideLists, outsideFile, expanded}
+use Rattle.jp2_picture.specs.Finish.{Finishing, outsideLists, outsideFile, expandedFrom, expanded}
 use Rattle.jp2_column.specs.Column.{noColumn}
 use Rattle.jp2_plane.specs.Plane.{plane}
 use Rattle.jp2_comps.specs.Alone.{listed}
-use Rattle.jp2_expand.specs.Channel.{expandedAt}
 use Rattle.jp2_finish.specs.declared.Finished.{Finished}
 use Rattle.jp2_finish.specs.Answers.{answered, recordsAfter, samplesAfter}
 
 -- the thirteen numbers of a channel's record
 abbrev pub recordAt : List ℕ → Palette → ℕ → List ℕ → ℕ → ℕ → ℕ → List ℕ
-recordAt f p mappings comps c r start = flat (λ _ k. expandedAt f p mappings comps c r start k) 13
+recordAt f p mappings comps c r start = flat (λ _ k. expandedFrom f p mappings (listed comps) c r start k) 13
 
 -- what a channel c of a type makes of the samples of its component r
 abbrev pub samplesAt : List ℕ → Palette → List ℕ → List ℤ → ℕ → ℕ → ℕ → List ℤ

@@ -3,16 +3,15 @@
 ghost use Prim.Native.Nat.{ℕ, _+_, _*_, _≤_, _<_};
 ghost use mathlib.Core.Path.{_≡_};
 ghost use lib.ListN.{length};
-ghost use Rattle.jp2_cio.specs.Table.{_and_, holds};
+ghost use Rattle.jp2_cio.specs.Table.{flag, _and_, holds};
 ghost use Rattle.jp2_cio.specs.Number.{placed};
 ghost use Rattle.jp2_cdef.specs.Flat.{reordered};
 ghost use Rattle.jp2_picture.specs.Image.{image, size};
-ghost use Rattle.jp2_picture.specs.Channels.{lowest, mapped, corrected, componentOf};
+ghost use Rattle.jp2_picture.specs.Channels.{lowest, mapped, corrected, componentOf, typeBy};
 ghost use Rattle.jp2_picture.specs.Samples.{startOf};
 ghost use Rattle.jp2_picture.specs.Check.{dataless};
 ghost use Rattle.jp2_picture.specs.Finish.{fitted, finish};
 ghost use Rattle.jp2_comps.specs.Alone.{listed, mappings};
-ghost use Rattle.jp2_expand.specs.Channel.{typeAt};
 ghost use Rattle.jp2_finish.specs.Answers.{answered, fronted, recordsAfter, samplesAfter};
 ghost use Rattle.jp2_finish.specs.Parts.{recordAt, samplesAt, Packable, Tested, Roomy, unordered, Done};
 use jp2_check::Checked;
@@ -95,10 +94,10 @@ fn pack_channel(
     at: usize,
 ) -> usize
     requires { ⌜ (13 * c + 13 ≤ length (now records)) × (at ≤ 4294967294) ⌝ }
-    requires { ⌜ Packable (now f) p (now comps) (now samples) c (componentOf (now f) (mappings l) c) (typeAt (now f) l correct c) (length (now planes)) at ⌝ }
+    requires { ⌜ Packable (now f) p (now comps) (now samples) c (componentOf (now f) (mappings l) c) (typeBy (now f) l (flag correct) c) (length (now planes)) at ⌝ }
     ensures { λ e. ⌜ e ≡ at + size (listed (now (comps .entry))) (componentOf (now (f .entry)) (mappings l) c) ⌝ }
     ensures { λ _. ⌜ now (records .exit) ≡ placed (now (records .entry)) (13 * c) (recordAt (now (f .entry)) p (l .count) (now (comps .entry)) c (componentOf (now (f .entry)) (mappings l) c) at) ⌝ }
-    ensures { λ _. ⌜ now (planes .exit) ≡ placed (now (planes .entry)) at (samplesAt (now (f .entry)) p (now (comps .entry)) (now (samples .entry)) c (componentOf (now (f .entry)) (mappings l) c) (typeAt (now (f .entry)) l correct c)) ⌝ }
+    ensures { λ _. ⌜ now (planes .exit) ≡ placed (now (planes .entry)) at (samplesAt (now (f .entry)) p (now (comps .entry)) (now (samples .entry)) c (componentOf (now (f .entry)) (mappings l) c) (typeBy (now (f .entry)) l (flag correct) c)) ⌝ }
 {
     let r = jp2_comps::component_of(f, l, c);
     pack_record(f, p, l.count, comps, c, r, at as u32, records);

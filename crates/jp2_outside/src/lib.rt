@@ -70,7 +70,7 @@ fn outside(f: &[u8], place: usize, size: usize) -> bool
 }
 
 // Whether a palette is one that no reader gives, or does not lie in f.
-fn palette_outside(f: &[u8], p: Palette) -> bool
+pub fn palette_outside(f: &[u8], p: Palette) -> bool
     ensures { λ r. ⌜ r ≡ holds (paletteOutside (now (f .entry)) p) ⌝ }
 {
     let place = p.place;

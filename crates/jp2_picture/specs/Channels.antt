@@ -34,6 +34,9 @@ direct f l c = 0 <? c and MTYP f l c =? 0
 abbrev pub corrected : List ℕ → Span → ℕ → Test
 corrected f l n = n =? 1 and some (direct f l) (l .count)
 
--- channel c's type: 0 is direct use of its component, 1 the palette's column c
+-- channel c's type, of mappings l that are corrected or not: 0 is direct use of its component, 1 the palette's column c
+abbrev pub typeBy : List ℕ → Span → Test → ℕ → ℕ
+typeBy f l correct c = table (correct ⇒ 1 ∣ l .count ≠? 0 ⇒ MTYP f l c ∣ otherwise 0)
+
 unfoldable pub typeOf : List ℕ → Jp2 → ℕ → ℕ → ℕ
-typeOf f m n c = table (mapped m and corrected f (m .lists .cmap) n ⇒ 1 ∣ mapped m ⇒ MTYP f (m .lists .cmap) c ∣ otherwise 0)
+typeOf f m n c = typeBy f (m .lists .cmap) (mapped m and corrected f (m .lists .cmap) n) c

@@ -12,7 +12,7 @@ use Rattle.jp2_order.specs.Definitions.{definitions}
 use Rattle.jp2_order.specs.Order.{arranged}
 use Rattle.jp2_order.specs.Flat.{flat}
 use Rattle.jp2_picture.specs.Image.{Image, component, width, height, first, none}
-use Rattle.jp2_picture.specs.Channels.{lowest, some, mapped, channels, componentOf}
+use Rattle.jp2_picture.specs.Channels.{lowest, some, channels, componentOf}
 use Rattle.jp2_picture.specs.Samples.{packed, startOf}
 use Rattle.jp2_picture.specs.Check.{misnamed, undefined, mismapped, dataless}
 
@@ -48,15 +48,17 @@ outsideFile f m =
 unfoldable pub counted : ℕ → Jp2 → Jp2
 counted ignore m = table (ignore =? 0 ⇒ m ∣ otherwise (withPclr (palette 0 0 0) (withCmap (span 0 0) (withCdef (span 0 0) m))))
 
--- number k of channel c's record before reordering: its component's, with the column's depth and sign as precision and sign, and with samples of its own
-unfoldable pub expanded : List ℕ → Jp2 → Image → ℕ → ℕ → ℕ
-expanded f m i c k =
-    let r = componentOf f m c in
+-- number k of channel c's record before reordering: that of its component r, with the column's depth and sign as precision and sign where there are mappings, and with samples of its own
+abbrev pub expandedFrom : List ℕ → Palette → ℕ → Image → ℕ → ℕ → ℕ → ℕ → ℕ
+expandedFrom f p mappings i c r start k =
     table
-    (mapped m and k =? 6 ⇒ depth (B f (m .lists .pclr) c)
-    ∣ mapped m and k =? 8 ⇒ sign (B f (m .lists .pclr) c)
-    ∣ first i r ≠? none and k =? 11 ⇒ startOf f m i c
+    (mappings ≠? 0 and k =? 6 ⇒ depth (B f p c)
+    ∣ mappings ≠? 0 and k =? 8 ⇒ sign (B f p c)
+    ∣ first i r ≠? none and k =? 11 ⇒ start
     ∣ otherwise (component i r k))
+
+unfoldable pub expanded : List ℕ → Jp2 → Image → ℕ → ℕ → ℕ
+expanded f m i c k = expandedFrom f (m .lists .pclr) (m .lists .cmap .count) i c (componentOf f m c) (startOf f m i c) k
 
 -- the finished picture: the channels' records in the order that the definitions give, and the channels' samples
 unfoldable pub picture : List ℕ → Jp2 → Image → Image

@@ -9,6 +9,7 @@ use Rattle.jp2_cio.proofs.Rows.{or-first, Says, row}
 use Rattle.jp2_column.specs.Put.{done, put}
 use Rattle.jp2_column.specs.Column.{noColumn}
 use Rattle.jp2_column.proofs.Amiss.{done-true, done-false}
+use Rattle.jp2_column.proofs.Columns.{there}
 use borrow.Author.Needs.{needs}
 use Rattle.jp2_column.proofs.read_column.Statement.{statement}
 use Rattle.jp2_column.proofs.read_column.Tie as tie
@@ -35,7 +36,10 @@ unfolding done put
 returns-2 c = (row 0 _ (λ _. omega arith) refl, row 0 _ (λ _. omega arith) refl)
 
 decode-column-requires : tie.Need-decode-column-requires
-decode-column-requires c κs = let k = sound (c .before .before .before) in omega (arith, k .1)
+decode-column-requires c κs =
+    let a = c .before .before .before .before .before .before .args in
+    let t = there (a .f .now) (a .p) (a .i) (sound (c .before .before .before)) in
+    (omega (arith, t .4), t .1, t .2, t .3, omega arith)
 
 same-length : tie.Need-same-length
 same-length c = search needs

@@ -11,7 +11,6 @@ use Rattle.jp2_cio.proofs.Rows.{row}
 use Rattle.jp2_record.specs.declared.Palette.{Palette}
 use Rattle.jp2_palette.specs.Pclr.{depth, sign, B}
 use Rattle.jp2_picture.proofs.Rests.{rest-number}
-use Rattle.jp2_expand.specs.Channel.{expandedAt}
 use Rattle.jp2_expand.proofs.expanded_number.Statement.{statement}
 use Rattle.jp2_expand.proofs.expanded_number.Tie as tie
 
@@ -23,18 +22,15 @@ component-requires : tie.Need-component-requires
 component-requires c κs = tt
 
 returns : tie.Need-returns
-unfolding expandedAt
 returns c = let a = c .before .before .before .before .before .args in let k : a .k ≡ 11 = omega arith in row 3 _ ((λ _. omega arith), ((λ _. omega arith), ((λ some. omega arith), tt))) (rw k (omega arith))
 
 returns-2 : tie.Need-returns-2
-unfolding expandedAt
 returns-2 c = row 2 _ ((λ _. omega arith), ((λ _. omega arith), ((λ none. omega arith), omega arith))) refl
 
 component-requires-2 : tie.Need-component-requires-2
 component-requires-2 c κs = tt
 
 returns-3 : tie.Need-returns-3
-unfolding expandedAt
 returns-3 c = row 3 _ ((λ some. omega arith), ((λ some. omega arith), ((λ _. omega arith), tt))) (c .component2 .ensures)
 
 part-requires : tie.Need-part-requires
@@ -50,7 +46,6 @@ add-result : tie.Need-add-result
 add-result c = search needs
 
 returns-4 : tie.Need-returns-4
-unfolding expandedAt
 returns-4 c = let a = c .before .before .before .before .before .before .before .args in row 0 _ (omega arith) (ap depth (column-byte (a .f .now) (a .p) (a .c) (c .before .before .part .ensures) (c .read-u8 .ensures)))
 
 read-u8-requires-2 : tie.Need-read-u8-requires-2
@@ -60,14 +55,12 @@ cast-result-2 : tie.Need-cast-result-2
 cast-result-2 c = search needs
 
 returns-5 : tie.Need-returns-5
-unfolding expandedAt
 returns-5 c = let a = c .before .before .before .before .before .before .before .before .args in row 1 _ ((λ _. omega arith), omega arith) (ap sign (column-byte (a .f .now) (a .p) (a .c) (c .before .before .before .part .ensures) (c .read-u82 .ensures)))
 
 component-requires-3 : tie.Need-component-requires-3
 component-requires-3 c κs = tt
 
 returns-6 : tie.Need-returns-6
-unfolding expandedAt
 returns-6 c = row 3 _ ((λ _. omega arith), ((λ _. omega arith), ((λ _. omega arith), tt))) (c .component3 .ensures)
 
 pub expanded-number-spec : {M : Type 1} → statement M

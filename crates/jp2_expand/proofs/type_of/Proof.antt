@@ -7,16 +7,13 @@ use mathlib.Core.Path.{_≡_, refl, ap, _∙_}
 use Rattle.jp2_cio.specs.Number.{number}
 use Rattle.jp2_cio.proofs.Rows.{row}
 use Rattle.jp2_picture.proofs.Rests.{rest-number}
-use Rattle.jp2_expand.specs.Channel.{typeAt}
 use Rattle.jp2_expand.proofs.type_of.Statement.{statement}
 use Rattle.jp2_expand.proofs.type_of.Tie as tie
 
 returns : tie.Need-returns
-unfolding typeAt
 returns c = row 0 _ (c .if1 .taken) refl
 
 returns-2 : tie.Need-returns-2
-unfolding typeAt
 returns-2 c = row 2 _ (c .before .before .if1 .left, (omega arith, tt)) refl
 
 part-requires : tie.Need-part-requires
@@ -35,7 +32,6 @@ cast-result : tie.Need-cast-result
 cast-result c = search needs
 
 returns-3 : tie.Need-returns-3
-unfolding typeAt
 returns-3 c =
     let a = c .before .before .before .before .before .before .args in
     let at : a .l .place + (4 * a .c + 2) ≡ a .l .place + 4 * a .c + 2 = omega arith in

@@ -10,7 +10,8 @@ use Rattle.jp2_record.specs.declared.Palette.{Palette}
 use Rattle.jp2_order.proofs.Flats.{flat-length, flat-number}
 use Rattle.jp2_cio.specs.Number.{placed}
 use Rattle.jp2_cio.proofs.Placing.{Placing, placing-none, placing-more, placing-all}
-use Rattle.jp2_expand.specs.Channel.{expandedAt}
+use Rattle.jp2_picture.specs.Finish.{expandedFrom}
+use Rattle.jp2_comps.specs.Alone.{listed}
 use Rattle.jp2_finish.specs.Parts.{recordAt}
 use Rattle.jp2_finish.proofs.pack_record.Statement.{statement}
 use Rattle.jp2_finish.proofs.pack_record.Tie as tie
@@ -20,10 +21,10 @@ module _ (f : List ℕ) (p : Palette) (mappings : ℕ) (comps : List ℕ) (c r s
   thirteen : length (recordAt f p mappings comps c r start) ≡ 13
   thirteen = flat-length _ 13
 
-  number-at : (k : ℕ) → k < 13 → expandedAt f p mappings comps c r start k ≡ getD (recordAt f p mappings comps c r start) k 0
+  number-at : (k : ℕ) → k < 13 → expandedFrom f p mappings (listed comps) c r start k ≡ getD (recordAt f p mappings comps c r start) k 0
   number-at k h =
       let e : k % 13 ≡ k = omega arith in
-      sym (flat-number _ 13 k h ∙ ap (expandedAt f p mappings comps c r start) e)
+      sym (flat-number _ 13 k h ∙ ap (expandedFrom f p mappings (listed comps) c r start) e)
 
 abbrev Inv-loop : tie.InvT-loop
 Inv-loop f p mappings comps c r start records₀ at k₀ records k = (k ≤ 13) × Placing records₀ (13 * c) (recordAt f p mappings comps c r start) records k

@@ -10,6 +10,7 @@ use Rattle.jp2_cio.proofs.Rows.{Says, row}
 use Rattle.jp2_column.specs.Put.{done, put}
 use Rattle.jp2_column.specs.Column.{noColumn, column}
 use Rattle.jp2_plane.specs.Plane.{plane}
+use Rattle.jp2_column.proofs.Columns.{there}
 use Rattle.jp2_column.proofs.Amiss.{done-true, done-false, put-done}
 use Rattle.jp2_plane.proofs.Columns.{placed-looked}
 use borrow.Author.Needs.{needs}
@@ -45,14 +46,15 @@ returns-3 : tie.Need-returns-3
 unfolding done put
 returns-3 c =
     let w = done-false _ (c .before .before .read-column .ensures .0) (c .if3 .taken) in
-    (row 0 _ (λ h. absurd (omega (arith, w h, h .1 .0))) refl, row 0 _ (λ h. absurd (omega (arith, w h, h .1 .0))) refl)
+    let a = c .before .before .before .before .before .before .before .before .before .args in
+    (row 0 _ (λ h. absurd (omega (arith, w h, there (a .f .now) (a .p) (a .i) h .1))) refl, row 0 _ (λ h. absurd (omega (arith, w h, there (a .f .now) (a .p) (a .i) h .1))) refl)
 
 sub-lookup-inside : tie.Need-sub-lookup-inside
-sub-lookup-inside c = let k = sound (c .before .before) in omega (arith, k .0)
+sub-lookup-inside c = let a = c .before .before .before .before .before .before .before .before .before .before .before .args in let t = there (a .f .now) (a .p) (a .i) (sound (c .before .before)) in omega (arith, t .0)
 
 lookup-inside-requires : tie.Need-lookup-inside-requires
-lookup-inside-requires c κs = let k = sound (c .before .before .before) in (
-  omega (arith, k .0, k .1 .0),
+lookup-inside-requires c κs = let a = c .before .before .before .before .before .before .before .before .before .before .before .before .args in let t = there (a .f .now) (a .p) (a .i) (sound (c .before .before .before)) in (
+  omega (arith, t .0, t .1),
   done-true _ (c .before .before .before .before .before .before .before .before .before .before .inside .ensures) (c .before .before .before .before .before .before .before .before .before .if1 .left),
   done-true _ (c .before .before .before .before .before .before .before .before .inside2 .ensures) (c .before .before .before .before .before .before .before .if2 .left),
 )
@@ -66,9 +68,10 @@ returns-4 c =
     let k = sound (c .before .before .before .before .before) in
     let r = lookup-inside-requires (c .before .before) (c .before .lookup-inside .lifetimes) in
     let a = c .before .before .before .before .before .before .before .before .before .before .before .before .before .before .args in
+    let t = there (a .f .now) (a .p) (a .i) k in
     let z = replicate 1024 (pos 0) in
-    let e = put-done (noColumn (a .f .now) (a .p) (a .i) or length z <? a .p .entries) z 0 (column (a .f .now) (a .p) (a .i) (a .p .entries)) (k, omega (arith, k .1 .0)) (c .before .before .before .before .before .before .before .read-column .ensures .1) in
-    let q = placed-looked (a .f .now) (a .p) (a .i) (a .dst .now) (a .at) z (plane (a .src .now) (a .from) (a .n)) (omega (arith, k .0)) e (c .before .lookup-inside .ensures) in
+    let e = put-done (noColumn (a .f .now) (a .p) (a .i) or length z <? a .p .entries) z 0 (column (a .f .now) (a .p) (a .i) (a .p .entries)) (k, omega (arith, t .1)) (c .before .before .before .before .before .before .before .read-column .ensures .1) in
+    let q = placed-looked (a .f .now) (a .p) (a .i) (a .dst .now) (a .at) z (plane (a .src .now) (a .from) (a .n)) (omega (arith, t .0)) e (c .before .lookup-inside .ensures) in
     (row 1 _ ((k, (r .1, r .2)), tt) refl, row 1 _ ((k, (r .1, r .2)), tt) q)
 
 pub lookup-plane-spec : {M : Type 1} → statement M
