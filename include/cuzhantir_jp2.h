@@ -8,7 +8,7 @@
  *   cuzhantir_picture   both in one step
  *   cuzhantir_write     writes all boxes before a codestream, and the header of the codestream's own box
  *
- * Link target/staticlib/libjp2_export.a (x86-64, Linux), which `rt staticlib jp2_export` writes.
+ * Link target/staticlib/libcuzhantir.a (x86-64, Linux), which `rt staticlib cuzhantir` writes.
  *
  * The answer. Each entry returns 0 when it was taken to an end, else one number of `enum cuzhantir_number`. The same
  * number, and the place that goes with it, stand in the list `reading` or `answer`. The place is one of these:

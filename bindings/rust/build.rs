@@ -4,7 +4,7 @@ use std::env;
 use std::path::PathBuf;
 use std::process::exit;
 
-const LIBRARY: &str = "libjp2_export.a";
+const LIBRARY: &str = "libcuzhantir.a";
 
 /// The folder that the caller names, else the one that `rt staticlib` writes to; its full name where it is there.
 fn folder() -> PathBuf {
@@ -28,11 +28,11 @@ fn main() {
     }
     if !library.is_file() {
         println!(
-            "cargo::error=no {LIBRARY} in {}: run `rt staticlib jp2_export` in the repository, or name the folder that has it in CUZHANTIR_LIB_DIR",
+            "cargo::error=no {LIBRARY} in {}: run `rt staticlib cuzhantir` in the repository, or name the folder that has it in CUZHANTIR_LIB_DIR",
             folder.display()
         );
         exit(1);
     }
     println!("cargo::rustc-link-search=native={}", folder.display());
-    println!("cargo::rustc-link-lib=static=jp2_export");
+    println!("cargo::rustc-link-lib=static=cuzhantir");
 }

@@ -1,4 +1,4 @@
-// The exports of libjp2_export.a, and the places of the numbers in the lists that they give.
+// The exports of libcuzhantir.a, and the places of the numbers in the lists that they give.
 #ifndef EXPORTS_H
 #define EXPORTS_H
 

@@ -44,19 +44,19 @@ pub fn comma(json: bool, i: usize) {
 // The four letters of a brand.
 pub fn code(json: bool, c: &[u8]) {
     say::text(json, b" '|\"");
-    say::quote(json, jp2_cio::part(c, 0, 4));
+    say::quote(json, box_number::part(c, 0, 4));
     say::text(json, b"'|\"");
 }
 
 fn component(json: bool, i: usize, c: &[u8]) {
-    let b = jp2_cio::read_u8(c, 0) as usize;
+    let b = box_number::read_u8(c, 0) as usize;
     field(json, b"\n    component #: |", i);
     field(json, b"# (|#", b);
     depth(json, b);
 }
 
 fn column(json: bool, i: usize, c: &[u8]) {
-    let b = jp2_cio::read_u8(c, 0) as u32;
+    let b = box_number::read_u8(c, 0) as u32;
     field(json, b"\n    B #: |{\"B\":", i);
     pair(json, b"# (# bits, |#,\"bits\":#", b, b % 128 + 1);
     field(json, b"|,\"sign\":#}", (b / 128) as usize);
@@ -74,29 +74,29 @@ fn sign(json: bool, sign: usize) {
 }
 
 fn mapping(json: bool, i: usize, c: &[u8]) {
-    let mtyp = jp2_cio::read_u8(c, 2);
+    let mtyp = box_number::read_u8(c, 2);
     field(json, b"\n    channel #: |{", i);
     pair(
         json,
         b"CMP #, MTYP # (|\"CMP\":#,\"MTYP\":#",
-        jp2_cio::read_u16(c, 0) as u32,
+        box_number::read_u16(c, 0) as u32,
         mtyp as u32,
     );
     note(json, mtyp as usize, b"direct\npalette\n");
     field(
         json,
         b"), PCOL #|,\"PCOL\":#}",
-        jp2_cio::read_u8(c, 3) as usize,
+        box_number::read_u8(c, 3) as usize,
     );
 }
 
 fn definition(json: bool, c: &[u8]) {
-    let typ = jp2_cio::read_u16(c, 2);
-    let asoc = jp2_cio::read_u16(c, 4);
+    let typ = box_number::read_u16(c, 2);
+    let asoc = box_number::read_u16(c, 4);
     pair(
         json,
         b"\n    Cn #, Typ # (|{\"Cn\":#,\"Typ\":#",
-        jp2_cio::read_u16(c, 0) as u32,
+        box_number::read_u16(c, 0) as u32,
         typ as u32,
     );
     channel(json, typ as usize);

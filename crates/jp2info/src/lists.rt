@@ -3,13 +3,13 @@ ghost use Prim.Native.Nat.{_≤_};
 use crate::items;
 use crate::items::Item;
 use crate::say;
-use jp2_record::Palette;
-use jp2_record::Span;
+use read_record::Palette;
+use read_record::Span;
 
 // A list with what stands before it. People are told nothing of an empty one.
 pub fn list(json: bool, head: &[u8], item: Item, file: &[u8], list: Span) {
     begin(json, head, list.count);
-    let c = jp2_cio::part(file, list.place, file.len());
+    let c = box_number::part(file, list.place, file.len());
     each(json, item, c, list.count);
     say::text(json, b"|]");
 }
@@ -44,17 +44,17 @@ fn front(rest: &[u8], n: usize) -> usize
 
 // The depths of a palette's columns.
 pub fn columns(json: bool, file: &[u8], p: Palette) {
-    let list = jp2_cio::part(file, p.place, file.len());
+    let list = box_number::part(file, p.place, file.len());
     each(json, Item::Column, list, p.columns as usize);
 }
 
 // The rows of a palette, which follow the depths.
 pub fn entries(json: bool, file: &[u8], p: Palette) {
-    let list = jp2_cio::part(file, p.place, file.len());
+    let list = box_number::part(file, p.place, file.len());
     let n = narrow(p.columns);
-    let depths = jp2_cio::part(list, 0, n as usize);
-    let size = jp2_palette::row_bytes(depths, 0, n);
-    let rest = jp2_cio::part(list, n as usize, list.len());
+    let depths = box_number::part(list, 0, n as usize);
+    let size = read_palette::row_bytes(depths, 0, n);
+    let rest = box_number::part(list, n as usize, list.len());
     rows(json, depths, rest, size, p.entries as usize);
 }
 

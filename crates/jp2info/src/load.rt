@@ -44,18 +44,18 @@ fn read(fd: i32, name: &[u8], room: &mut [u8]) -> Loaded {
 fn failed(name: &[u8]) {
     let mut d = io::large_buffer();
     let at = head(&mut d, name);
-    os::fail(jp2_cio::part(&d, 0, at));
+    os::fail(box_number::part(&d, 0, at));
 }
 
 pub fn complain(name: &[u8], reason: &[u8]) {
     let mut d = io::large_buffer();
     let at = head(&mut d, name);
-    let at = jp2_text::text(&mut d, at, reason);
-    io::write_all(STDERR_FILENO, jp2_cio::part(&d, 0, at));
+    let at = text::text(&mut d, at, reason);
+    io::write_all(STDERR_FILENO, box_number::part(&d, 0, at));
 }
 
 // The name, of 4096 bytes at most, has room in the list even where each byte takes four.
 fn head(d: &mut [u8], name: &[u8]) -> usize {
-    let at = jp2_text::text(d, 0, b"jp2info: ");
-    jp2_quote::quote(d, at, false, name)
+    let at = text::text(d, 0, b"jp2info: ");
+    text::quote(d, at, false, name)
 }

@@ -71,7 +71,7 @@ fn is(s: &[u8], word: &[u8]) -> bool {
     }
     let mut i = 0;
     while i < s.len() {
-        if s[i] != jp2_cio::read_u8(word, i) {
+        if s[i] != box_number::read_u8(word, i) {
             return false;
         }
         i += 1;
@@ -82,7 +82,7 @@ fn is(s: &[u8], word: &[u8]) -> bool {
 fn file(json: bool, name: &[u8], room: &mut [u8]) {
     let loaded = load::load(name, room);
     if let Loaded::Whole(n) = loaded {
-        let file = jp2_cio::part(room, 0, n);
-        record::reading(json, name, file, jp2_file::read_file(file));
+        let file = box_number::part(room, 0, n);
+        record::reading(json, name, file, read_file::read_file(file));
     }
 }

@@ -9,15 +9,15 @@ use crate::say::note;
 use crate::say::pair;
 use crate::say::text;
 use crate::say::word;
-use jp2_file::FileAnswer;
-use jp2_file::Reading;
-use jp2_record::Colour;
-use jp2_record::FileType;
-use jp2_record::Image;
-use jp2_record::Jp2;
-use jp2_record::Lab;
-use jp2_record::Palette;
-use jp2_record::Span;
+use read_file::FileAnswer;
+use read_file::Reading;
+use read_record::Colour;
+use read_record::FileType;
+use read_record::Image;
+use read_record::Jp2;
+use read_record::Lab;
+use read_record::Palette;
+use read_record::Span;
 
 pub fn reading(json: bool, name: &[u8], file: &[u8], r: Reading) {
     text(json, b"|{\"file\":\"");
@@ -137,7 +137,7 @@ fn filetype(json: bool, file: &[u8], t: FileType, cl: Span) {
 
 fn brand(json: bool, n: u32) {
     let mut letters = [0u8; 4];
-    jp2_cio::opj_write_bytes(&mut letters, 0, n, 4);
+    box_number::opj_write_bytes(&mut letters, 0, n, 4);
     items::code(json, &letters);
 }
 

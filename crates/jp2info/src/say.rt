@@ -7,9 +7,9 @@ pub fn text(json: bool, piece: &[u8]) {
 
 fn form(json: bool, piece: &[u8]) -> &[u8] {
     if json {
-        return jp2_text::line(piece, b'|', 1);
+        return text::line(piece, b'|', 1);
     }
-    jp2_text::line(piece, b'|', 0)
+    text::line(piece, b'|', 0)
 }
 
 // The end of what is said of a file. Where output no longer arrives, this is where it is noticed.
@@ -31,13 +31,13 @@ pub fn pair(json: bool, piece: &[u8], a: u32, b: u32) {
 
 fn filled(shape: &[u8], a: usize, b: usize) {
     let mut d = io::buffer();
-    let n = jp2_text::fill(&mut d, 0, shape, &[a, b]);
-    io::write_all(STDOUT_FILENO, jp2_cio::part(&d, 0, n));
+    let n = text::fill(&mut d, 0, shape, &[a, b]);
+    io::write_all(STDOUT_FILENO, box_number::part(&d, 0, n));
 }
 
 // Line n of some lines, from 0; "unknown" where it is empty or not there.
 pub fn word(n: usize, lines: &[u8]) {
-    let s = jp2_text::line(lines, b'\n', n);
+    let s = text::line(lines, b'\n', n);
     if s.len() == 0 {
         io::write_all(STDOUT_FILENO, b"unknown");
         return;
@@ -55,21 +55,21 @@ pub fn note(json: bool, n: usize, lines: &[u8]) {
 // A text from outside: a file's name, of 4096 bytes at most, or a brand. It has room even where each byte takes six.
 pub fn quote(json: bool, s: &[u8]) {
     let mut d = io::large_buffer();
-    let n = jp2_quote::quote(&mut d, 0, json, s);
-    io::write_all(STDOUT_FILENO, jp2_cio::part(&d, 0, n));
+    let n = text::quote(&mut d, 0, json, s);
+    io::write_all(STDOUT_FILENO, box_number::part(&d, 0, n));
 }
 
 // The values of a palette's row: 255 at most, of ten digits at most.
 pub fn row(json: bool, depths: &[u8], c: &[u8]) {
     let mut d = io::buffer();
-    let n = jp2_text::row(&mut d, 0, &[between(json)], depths, c);
-    io::write_all(STDOUT_FILENO, jp2_cio::part(&d, 0, n));
+    let n = text::row(&mut d, 0, &[between(json)], depths, c);
+    io::write_all(STDOUT_FILENO, box_number::part(&d, 0, n));
 }
 
 pub fn join(json: bool, numbers: &[u32]) {
     let mut d = io::buffer();
-    let n = jp2_text::join(&mut d, 0, &[between(json)], numbers);
-    io::write_all(STDOUT_FILENO, jp2_cio::part(&d, 0, n));
+    let n = text::join(&mut d, 0, &[between(json)], numbers);
+    io::write_all(STDOUT_FILENO, box_number::part(&d, 0, n));
 }
 
 // What stands between two numbers.

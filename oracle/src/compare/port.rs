@@ -2,7 +2,7 @@
 
 use oracle::FinishingRequest;
 
-#[link(name = "jp2_export", kind = "static")]
+#[link(name = "cuzhantir", kind = "static")]
 unsafe extern "C" {}
 
 #[allow(dead_code)]

@@ -1,6 +1,6 @@
 //! The port's writing, for lists. The comparison and the program behind `oracle/outside` both include this file.
 
-#[link(name = "jp2_export", kind = "static")]
+#[link(name = "cuzhantir", kind = "static")]
 unsafe extern "C" {}
 
 #[allow(dead_code)]

@@ -1,2 +1,0 @@
-pub mod Cmap
-pub mod Cdef

@@ -1,5 +1,0 @@
-pub mod Rows
-pub mod Numbers
-pub mod Placing
-pub mod Pieces
-pub mod Bytes

@@ -1,2 +1,0 @@
-pub mod Amiss
-pub mod Columns

@@ -1,5 +1,0 @@
-pub mod Packing
-pub mod Rooms
-pub mod Channels
-pub mod Colours
-pub mod Finishes

@@ -1,1 +1,0 @@
-// Document 01's marked cases, as one table about the definitions (specs/Cases.antt). There is no code here.

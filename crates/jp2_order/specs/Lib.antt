@@ -1,5 +1,0 @@
-pub mod Definitions
-pub mod Order
-pub mod Flat
-pub mod Rules
-pub mod Cases

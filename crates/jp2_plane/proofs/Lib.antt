@@ -1,3 +1,0 @@
-pub mod Amiss
-pub mod Columns
-pub mod Lookups

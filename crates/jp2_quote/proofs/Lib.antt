@@ -1,2 +1,0 @@
-pub mod Utf8s
-pub mod Quotes

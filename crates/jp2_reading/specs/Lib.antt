@@ -1,6 +1,0 @@
-pub mod Range
-pub mod Alike
-pub mod Apart
-pub mod Free
-pub mod Places
-pub mod Sound

@@ -1,4 +1,0 @@
-pub mod Comps
-pub mod Steps
-pub mod Tasks
-pub mod Agree

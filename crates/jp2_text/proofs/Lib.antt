@@ -1,4 +1,0 @@
-pub mod Puts
-pub mod Decimals
-pub mod Shapes
-pub mod Lines

@@ -1,9 +1,0 @@
--- What writing answers: how many bytes were written, which is where the codestream goes; or document 01's number with its index or needed length.
-use lib.ListN.{length}
-use Rattle.jp2_written.specs.Writing.{Writing, written, declined}
-use Rattle.jp2_write.specs.declared.Written.{Written}
-use Rattle.jp2_write.specs.declared.Written.the-variants.{Bytes, Refused}
-
-unfoldable pub answered : Writing → Written
-answered (written bs) = Bytes (length bs)
-answered (declined number place) = Refused number place

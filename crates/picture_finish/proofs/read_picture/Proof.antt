@@ -1,0 +1,52 @@
+-- `picture_finish::read_picture` meets its contract.
+-- Assumes nothing.
+use borrow.Author.Needs.{needs}
+use Rattle.picture_rules.specs.Image.{image}
+use Rattle.picture_rules.specs.Finish.{finish}
+use lib.ListN.{length}
+use Rattle.picture_finish.specs.Whole.{handed}
+use Rattle.picture_finish.proofs.Wholes.{reading-refused, reading-on, shows, shows-refused}
+use Rattle.picture_finish.proofs.read_picture.Statement.{statement}
+use Rattle.picture_finish.proofs.read_picture.Tie as tie
+
+read-file-requires : tie.Need-read-file-requires
+read-file-requires c κs = tt
+
+enum-known-answer : tie.Need-enum-known-answer
+enum-known-answer c = search needs
+
+cast-t14 : tie.Need-cast-t14
+cast-t14 c = search needs
+
+opj-jp2-apply-color-postprocessing-requires : tie.Need-opj-jp2-apply-color-postprocessing-requires
+opj-jp2-apply-color-postprocessing-requires c κs = tt
+
+returns : tie.Need-returns
+returns c = let a = c .before .before .before .before .before .before .before .before .args in shows-refused (handed (a .file .now) (a .ignore) (a .comps .now) (a .count) (a .samples .now) (a .records .now) (a .planes .now)) (a .records .now) (a .planes .now) (reading-refused (handed (a .file .now) (a .ignore) (a .comps .now) (a .count) (a .samples .now) (a .records .now) (a .planes .now)) (c .before .before .before .before .read-file .ensures) (c .before .answer .given .1))
+
+same-length : tie.Need-same-length
+same-length c = search needs
+
+same-length-2 : tie.Need-same-length-2
+same-length-2 c = search needs
+
+returns-2 : tie.Need-returns-2
+returns-2 c =
+    let a = c .before .before .before .before .before .before .before .before .before .before .before .before .args in
+    let r = c .before .before .before .before .before .before .before .before .read-file in
+    let e = c .before .before .before .opj-jp2-apply-color-postprocessing .ensures in
+    shows (handed (a .file .now) (a .ignore) (a .comps .now) (a .count) (a .samples .now) (a .records .now) (a .planes .now)) (finish (a .file .now) (r .result .jp2) (a .ignore) (image (a .comps .now) (a .count) (a .samples .now)) (length (a .records .now)) (length (a .planes .now))) (a .records .now) (a .planes .now)
+    (reading-on (handed (a .file .now) (a .ignore) (a .comps .now) (a .count) (a .samples .now) (a .records .now) (a .planes .now)) (r .ensures) (c .before .before .before .before .before .before .match .keys2)) (e .0) (e .1 .0) (e .1 .1)
+
+pub read-picture-spec : {M : Type 1} → statement M
+read-picture-spec =
+    tie.close
+    (tie.spec
+    read-file-requires
+    enum-known-answer
+    cast-t14
+    opj-jp2-apply-color-postprocessing-requires
+    returns
+    same-length
+    same-length-2
+    returns-2)

@@ -1,0 +1,27 @@
+-- What finishing a picture answers, and what it leaves in the two destinations.
+use Prim.Native.Nat.{ℕ}
+use mathlib.Core.List.{List, _++_}
+use lib.IntN.{ℤ}
+use lib.ListN.{length, drop}
+use Rattle.picture_rules.specs.Finish.{Finishing, finished, declined}
+use Rattle.picture_finish.specs.declared.Finished.{Finished}
+use Rattle.picture_finish.specs.declared.Finished.the-variants.{Planes, Refused}
+
+-- so many planes, or document 01's number with its index or needed length
+unfoldable pub answered : Finishing → Finished
+answered (finished planes) = Planes (planes .count)
+answered (declined number place) = Refused number place
+
+-- a destination d with a list at its front, and the rest as it was
+abbrev pub fronted : {A : Type 0} → List A → List A → List A
+fronted xs d = xs ++ drop (length xs) d
+
+-- the numbers of the records; a refusal changes none
+unfoldable pub recordsAfter : Finishing → List ℕ → List ℕ
+recordsAfter (finished planes) d = fronted (planes .components) d
+recordsAfter (declined number place) d = d
+
+-- the samples; a refusal changes none
+unfoldable pub samplesAfter : Finishing → List ℤ → List ℤ
+samplesAfter (finished planes) d = fronted (planes .samples) d
+samplesAfter (declined number place) d = d

@@ -1,0 +1,71 @@
+-- The numbers of the records, one after the other: two records that change places, and one that is marked, there and in the list of numbers.
+-- Assumes nothing.
+use Prim.Native.Nat.{ℕ, zero, suc, _+_, _*_, _<_}
+use mathlib.Core.Path.{_≡_, refl, ap, sym, _∙_}
+use mathlib.Core.List.{List, [], _∷_, _++_}
+use native.Mathlib.Omega.{arith}
+use native.Mathlib.Decide.{ℕ-discrete}
+use lib.ListN.{length, getD, set, length-set, length-append, List·getD-append, getD-replicate}
+use lib.Seq.{getD-set-same, getD-set-other, getD-append-add}
+use Rattle.picture_rules.specs.Order.{exchange}
+use Rattle.picture_rules.proofs.Exchange
+use Rattle.picture_order.specs.Flat.{numberOf}
+use Rattle.picture_order.specs.Steps.{Exchanged}
+use Rattle.picture_lent.specs.Comps.{none, numbers, numbered, swapped, with-alpha}
+use Rattle.picture_lent.specs.declared.Comp.{Comp}
+
+pub numbered-length : (cs : List Comp) → length (numbered cs) ≡ 13 * length cs
+unfolding numbered
+numbered-length [] = refl
+numbered-length (c ∷ cs) = rw length-append (omega (arith, numbered-length cs))
+
+-- number k of record r
+pub numbered-at : (cs : List Comp) (r k : ℕ) → k < 13 → numberOf (numbered cs) r k ≡ getD (numbers (getD cs r none)) k 0
+unfolding numbered
+numbered-at [] r k h = sym (getD-replicate 13 k 0 0 h)
+numbered-at (c ∷ cs) zero k h =
+    let e : 13 * zero + k ≡ k = omega arith in
+    ap (λ i. getD (numbers c ++ numbered cs) i 0) e ∙ List·getD-append (numbers c) (numbered cs) 0 k h
+numbered-at (c ∷ cs) (suc r) k h =
+    let e : 13 * suc r + k ≡ 13 + (13 * r + k) = omega arith in
+    ap (λ i. getD (numbers c ++ numbered cs) i 0) e ∙ getD-append-add (numbers c) (numbered cs) (13 * r + k) 0 ∙ numbered-at cs r k h
+
+pub swapped-length : (l : List Comp) (i j : ℕ) → length (swapped l i j) ≡ length l
+swapped-length l i j = length-set (set l i (getD l j none)) j (getD l i none) ∙ length-set l i (getD l j none)
+
+getD-swapped : (l : List Comp) (a b i : ℕ) → a < length l → b < length l → getD (swapped l a b) i none ≡ getD l (exchange a b i) none
+getD-swapped l a b i ha hb =
+    Exchange.cases (λ x. getD (swapped l a b) i none ≡ getD l x none) a b i
+    (λ e. one e (ℕ-discrete i b))
+    (λ e. rw e last)
+    (λ e f. getD-set-other (set l a (getD l b none)) b i (getD l a none) none f ∙ getD-set-other l a i (getD l b none) none e)
+  where
+    last : getD (swapped l a b) b none ≡ getD l a none
+    last = getD-set-same (set l a (getD l b none)) b (getD l a none) none (rw (length-set l a (getD l b none)) hb)
+
+    one : i ≡ a → Dec (i ≡ b) → getD (swapped l a b) i none ≡ getD l b none
+    one e (yes f) = ap (λ x. getD (swapped l a b) x none) f ∙ last ∙ ap (λ x. getD l x none) (sym e ∙ f)
+    one e (no f) =
+        getD-set-other (set l a (getD l b none)) b i (getD l a none) none f ∙ ap (λ x. getD (set l a (getD l b none)) x none) e
+        ∙ getD-set-same l a (getD l b none) none ha
+
+pub swapped-numbered : (l : List Comp) (p q : ℕ) → p < length l → q < length l → Exchanged p q (numbered l) (numbered (swapped l p q))
+swapped-numbered l p q hp hq =
+    λ r k h. numbered-at (swapped l p q) r k h ∙ ap (λ c. getD (numbers c) k 0) (getD-swapped l p q r hp hq) ∙ sym (numbered-at l (exchange p q r) k h)
+
+pub marked-numbered : (l : List Comp) (p t : ℕ) → p < length l → numbered (set l p (with-alpha (getD l p none) t)) ≡ set (numbered l) (13 * p + 12) t
+unfolding numbered
+marked-numbered [] p t h = absurd (omega arith)
+marked-numbered (c ∷ l) zero t h = refl
+marked-numbered (c ∷ l) (suc p) t h =
+    let e : 13 * suc p + 12 ≡ suc (suc (suc (suc (suc (suc (suc (suc (suc (suc (suc (suc (suc (13 * p + 12))))))))))))) = omega arith in
+    ap (λ x. numbers c ++ x) (marked-numbered l p t (omega arith)) ∙ sym (ap (λ i. set (numbers c ++ numbered l) i t) e)
+
+-- what is stored where it already stands changes nothing
+pub set-self : (l : List Comp) (i : ℕ) → set l i (getD l i none) ≡ l
+set-self [] i = refl
+set-self (c ∷ l) zero = refl
+set-self (c ∷ l) (suc i) = ap (λ x. c ∷ x) (set-self l i)
+
+pub swapped-self : (l : List Comp) (i : ℕ) → swapped l i i ≡ l
+swapped-self l i = ap (λ x. set x i (getD l i none)) (set-self l i) ∙ set-self l i

@@ -1,0 +1,5 @@
+pub mod Task
+pub mod Comps
+pub mod Steps
+pub mod Tasks
+pub mod Agree

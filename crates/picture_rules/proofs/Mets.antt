@@ -1,0 +1,86 @@
+-- The premises of demand 3 are met by two pictures, computed.
+-- Assumes nothing.
+use Prim.Native.Nat.{ℕ}
+use mathlib.Core.Path.{_≡_, refl, ap}
+use mathlib.Core.List.{List, [], _∷_}
+use native.Mathlib.Omega.{arith}
+use lib.ListN.{getD}
+use Rattle.box_number.specs.Number.{number, part}
+use Rattle.box_number.specs.Table.{table}
+use Rattle.box_kind.specs.Kind.{kindOf}
+use Rattle.box_header.specs.Box.{headerLength, boxLength}
+use Rattle.read_record.specs.declared.Jp2.{Jp2}
+use Rattle.read_record.specs.Record.{span, blank}
+use Rattle.read_record.specs.State.{withBit}
+use Rattle.read_record.specs.Answer.{Result, accepted, refused}
+use Rattle.read_signature.specs.Signature.{signature}
+use Rattle.read_signature.specs.FileType.{fileType}
+use Rattle.read_image.specs.Ihdr.{ihdr}
+use Rattle.read_image.specs.Bpcc.{bpcc}
+use Rattle.read_colour.specs.Colr.{lab, colr}
+use Rattle.read_palette.specs.Pclr.{entryBytes, rowBytes, Cji, pclr}
+use Rattle.read_channels.specs.Cmap.{cmap}
+use Rattle.read_channels.specs.Cdef.{cdef}
+use Rattle.read_jp2h.specs.Split.{split}
+use Rattle.read_jp2h.specs.Jp2h.{readAll, lacksIhdr, jp2h}
+use Rattle.read_file.specs.File.{outer, run, walk, read}
+use Rattle.read_rules.specs.Range.{range}
+use Rattle.read_rules.specs.Alike.{given, Alike}
+use Rattle.read_channels.specs.Definitions.{Def, def, definitionsTo, definitions}
+use Rattle.picture_rules.specs.Order.{exchange, define}
+use Rattle.picture_rules.specs.Flat.{flat}
+use Rattle.picture_rules.specs.Order as order
+use Rattle.picture_rules.specs.Image.{Image, size}
+use Rattle.box_number.specs.Lowest.{lowest}
+use Rattle.picture_rules.specs.Channels.{channels, componentOf, typeOf}
+use Rattle.picture_rules.specs.Samples.{displayed, lookup, valueFor, valueOf, channelSamples, packed, startOf}
+use Rattle.picture_rules.specs.Finish.{counted, expanded, picture, fitted, coloured, finish}
+use Rattle.picture_rules.specs.Words.{Handed, Accepted}
+use Rattle.picture_rules.specs.Met.{otherwise-turned, directFile, direct, directPlanes, palettedFile, paletted, palettedPlanes, Met, DirectMet, PaletteMet}
+use Rattle.picture_rules.proofs.Distinct.{once-pairwise, swapped, alike-parts}
+
+-- three definitions at a place, and the first two exchanged
+module _ (h : Handed) (planes : Image) (g : List ℕ) (m : Jp2) (p : ℕ) where
+  abbrev a : Def
+  a = def 0 0 3
+
+  abbrev b : Def
+  b = def 1 0 2
+
+  abbrev c : Def
+  c = def 2 0 1
+
+  met :
+      Accepted h m planes → h .ignore ≡ 0 → m .lists .cdef ≡ span p 3 → definitions (h .file) (span p 3) ≡ a ∷ b ∷ c ∷ [] → definitions g (span p 3) ≡ b ∷ a ∷ c ∷ [] →
+      Alike (h .file) g (range p 18) → (g ≡ h .file → ⊥) → Met h planes g
+  met y applied place here there alike other =
+      record {
+        kept = m;
+        accepted = y;
+        defined = record { present = rw place (omega arith); applied = applied };
+        clear = rw (place, here) (once-pairwise (a ∷ b ∷ c ∷ []) (omega arith));
+        alike = record { reads = y .reading; alike = rw place alike; reordered = rw (place, here, there) (swapped a b (c ∷ [])) };
+        other-order = other;
+      }
+
+-- the record to which a file is read
+abbrev keptOf : Result → Jp2
+keptOf (accepted m) = m
+keptOf (refused number place) = blank
+
+-- what reading and finishing compute with
+computing : ℕ
+unfolding table number part kindOf headerLength boxLength withBit signature fileType ihdr bpcc lab colr entryBytes rowBytes pclr cmap cdef split readAll lacksIhdr jp2h outer run walk definitionsTo exchange define order.run size lowest channels componentOf typeOf displayed lookup valueFor valueOf channelSamples packed startOf Cji counted expanded flat picture fitted coloured finish
+computing = 0
+
+pub direct-met : DirectMet
+unfolding computing
+direct-met =
+    met direct directPlanes (directFile otherwise-turned) (keptOf (given (read (direct .file)))) 72 (record { reading = refl; finishing = refl }) refl refl refl refl
+    (alike-parts (direct .file) (directFile otherwise-turned) 72 18 refl refl refl) (λ e. omega (arith, ap (λ x. getD x 73 0) e))
+
+pub palette-met : PaletteMet
+unfolding computing
+palette-met =
+    met paletted palettedPlanes (palettedFile otherwise-turned) (keptOf (given (read (paletted .file)))) 112 (record { reading = refl; finishing = refl }) refl refl refl refl
+    (alike-parts (paletted .file) (palettedFile otherwise-turned) 112 18 refl refl refl) (λ e. omega (arith, ap (λ x. getD x 113 0) e))

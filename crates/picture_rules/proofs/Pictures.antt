@@ -1,0 +1,143 @@
+-- The picture that is made, in front of anything: each channel fills its plane, and a colour's channel the plane of its colour.
+-- Assumes nothing.
+use Prim.Native.Nat.{ℕ, _+_, _-_, _*_, _≤_, _<_}
+use mathlib.Core.Path.{_≡_, refl, sym, ap, ap₂, _∙_}
+use mathlib.Core.Bool.{false}
+use mathlib.Core.List.{List, _++_}
+use native.Mathlib.Nat.{add-assoc, mul-le-mul-right}
+use native.Mathlib.Omega.{arith}
+use lib.IntN.{ℤ, pos}
+use lib.ListN.{getD, List·getD-append}
+use Rattle.box_number.specs.Table.{_=?_}
+use Rattle.box_number.proofs.Rows.{Says, row}
+use Rattle.read_record.specs.declared.Jp2.{Jp2}
+use Rattle.read_channels.specs.Definitions.{Def, definition, definitionsTo, definitions}
+use Rattle.picture_rules.specs.Definitions.{Colour}
+use Rattle.picture_rules.specs.Order.{run, arranged}
+use Rattle.picture_rules.specs.Flat.{flat}
+use Rattle.picture_rules.specs.Rules.{Paired, OrderPairs, ColourLands}
+use Rattle.picture_rules.specs.Image.{Image, image, component, width, height, first, none, indexOf, sampleAt}
+use Rattle.picture_rules.specs.Channels.{channels, componentOf}
+use Rattle.picture_rules.specs.Samples.{valueOf, packed, startOf}
+use Rattle.picture_rules.specs.Finish.{outsideLists, expanded, picture}
+use Rattle.picture_rules.specs.Words.{Handed, Clear, Fills}
+use Rattle.picture_rules.specs.PictureRule.{FilledPlanes, RightPlanes}
+use Rattle.picture_rules.specs.EveryPicture.{EveryPlane}
+use Rattle.box_number.proofs.Indices.{decide}
+use Rattle.picture_rules.proofs.Flats.{flat-length, flat-at}
+use Rattle.picture_rules.proofs.Packs.{start-more, packed-at}
+use Rattle.picture_rules.proofs.Checks.{Checked, made}
+use Rattle.picture_rules.proofs.Listed.{occurs}
+use Rattle.picture_rules.proofs.Mappings.{Kept, component-within}
+
+-- what a channel's record takes from its component
+module _ (f : List ℕ) (m : Jp2) (i : Image) (c : ℕ) where
+  expanded-width : expanded f m i c 2 ≡ width i (componentOf f m c)
+  unfolding expanded
+  expanded-width = sym (row 3 _ (omega arith) refl)
+
+  expanded-height : expanded f m i c 3 ≡ height i (componentOf f m c)
+  unfolding expanded
+  expanded-height = sym (row 3 _ (omega arith) refl)
+
+  expanded-none : first i (componentOf f m c) ≡ none → expanded f m i c 11 ≡ none
+  unfolding expanded
+  expanded-none e = sym (row 3 _ ((λ _. omega arith), ((λ _. omega arith), ((λ h. absurd (h e)), tt))) (sym e))
+
+  expanded-start : (first i (componentOf f m c) ≡ none → ⊥) → expanded f m i c 11 ≡ startOf f m i c
+  unfolding expanded
+  expanded-start h = sym (row 2 _ ((λ _. omega arith), ((λ _. omega arith), (h, refl))) refl)
+
+-- a sample by its index within its plane
+at-index : (samples : List ℤ) (start w y x : ℕ) → getD samples (indexOf start w y x) (pos 0) ≡ getD samples (start + (y * w + x)) (pos 0)
+at-index samples start w y x = ap (λ k. getD samples k (pos 0)) (add-assoc start (y * w) x)
+
+-- the picture that is made of what is handed in, with any numbers behind its records and any samples behind its own
+module _ (h : Handed) (m : Jp2) (numbers : List ℕ) (samples : List ℤ) (pairs : OrderPairs) where
+  abbrev f : List ℕ
+  f = h .file
+
+  abbrev i : Image
+  i = h .image
+
+  abbrev n : ℕ
+  n = channels m (i .count)
+
+  abbrev planes : Image
+  planes = image (made h m .components ++ numbers) (made h m .count) (made h m .samples ++ samples)
+
+  abbrev ds : List Def
+  ds = definitions f (m .lists .cdef)
+
+  abbrev paired : Paired n ds (expanded f m i)
+  paired = pairs n ds (expanded f m i)
+
+  abbrev to : ℕ → ℕ
+  to = paired .pairing .to
+
+  -- number k of channel c's plane
+  plane-number : (c k : ℕ) → c < n → k < 12 → component planes (to c) k ≡ expanded f m i c k
+  unfolding picture
+  plane-number c k l b =
+      let records = arranged n ds (expanded f m i) .records in
+      let below = paired .pairing .to-below c l in
+      List·getD-append (flat records (13 * n)) numbers 0 (13 * to c + k) (omega (arith, flat-length records (13 * n)))
+      ∙ flat-at records n (to c) k below (omega arith) ∙ paired .stands c k l b
+
+  -- where every check passes
+  module _ (checked : Checked h m) (inside : Says false (outsideLists i)) (k : Kept m) where
+    module _ (c : ℕ) (l : c < n) where
+      abbrev r : ℕ
+      r = componentOf f m c
+
+      wide : width planes (to c) ≡ width i r
+      wide = plane-number c 2 l (omega arith) ∙ expanded-width f m i c
+
+      high : height planes (to c) ≡ height i r
+      high = plane-number c 3 l (omega arith) ∙ expanded-height f m i c
+
+      start : (first i r ≡ none → ⊥) → first planes (to c) ≡ startOf f m i c
+      start some = plane-number c 11 l (omega arith) ∙ expanded-start f m i c some
+
+      sample : (first i r ≡ none → ⊥) → (y x : ℕ) → y < height i r → x < width i r → sampleAt planes (to c) y x ≡ valueOf f m (i .count) c (sampleAt i r y x)
+      unfolding picture
+      sample some y x a b =
+          ap₂ (λ s w. getD (packed f m i n ++ samples) (indexOf s w y x) (pos 0)) (start some) wide ∙ at-index (packed f m i n ++ samples) (startOf f m i c) (width i r) y x
+          ∙ packed-at f m i n (λ c l. component-within h m k checked c l inside) samples c (y * width i r + x) (pos 0) l some (omega (arith, mul-le-mul-right (width i r) a))
+          ∙ ap (valueOf f m (i .count) c) (sym (at-index (i .samples) (first i r) (width i r) y x))
+
+      fills : Fills h m planes c (to c)
+      fills =
+          record {
+            wide = wide;
+            high = high;
+            empty = λ e. plane-number c 11 l (omega arith) ∙ expanded-none f m i c e;
+            empty-only = λ e. decide (first i r =? none) (λ z. z) (λ some. omega (arith, start some, checked .most, start-more f m i c n (omega arith)));
+            sample = λ some y x a b. sample some y x (omega (arith, high)) (omega (arith, wide));
+          }
+
+    -- no definition moves a channel
+    in-order : m .lists .cdef .count ≡ 0 → (c : ℕ) → c < n → to c ≡ c
+    unfolding definitionsTo run
+    in-order e c l = sym (paired .seats c l) ∙ ap (λ count. arranged n (definitionsTo f (m .lists .cdef) count) (expanded f m i) .seat c) e
+
+    colours :
+        ColourLands → Clear h m → (j : ℕ) → j < m .lists .cdef .count → Colour (definition f (m .lists .cdef) j) →
+        to (definition f (m .lists .cdef) j .channel) ≡ definition f (m .lists .cdef) j .asoc - 1
+    colours lands clear j l colour =
+        let d = definition f (m .lists .cdef) j in
+        let below : d .channel < n = omega (arith, checked .named j l .0) in
+        let within : d .asoc ≤ n = checked .named j l .1 (λ z. omega arith) (λ z. omega arith) in
+        sym (paired .seats (d .channel) below) ∙ lands n ds (expanded f m i) clear d (occurs f (m .lists .cdef) (m .lists .cdef .count) j l) colour below within
+
+    abbrev filled : FilledPlanes h m planes
+    unfolding picture
+    filled = record { all-planes = refl; pairing = paired .pairing; fills = fills }
+
+    pub right : ColourLands → Clear h m → RightPlanes h m planes
+    unfolding picture
+    right lands clear = record { filled = filled; colours = colours lands clear }
+
+    pub every : EveryPlane h m planes
+    unfolding picture
+    every = record { filled = filled; in-order = in-order }

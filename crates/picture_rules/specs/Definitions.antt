@@ -1,0 +1,25 @@
+-- Definitions of colours, and the same definitions in another order.
+use Prim.Native.Nat.{ℕ, suc, _≤_}
+use mathlib.Core.Path.{_≡_}
+use mathlib.Core.Bool.{Bool, _&&_}
+use mathlib.Core.List.{List, [], _∷_}
+use lib.Dec.{eqb}
+use Rattle.box_number.specs.Table.{pick}
+use Rattle.read_channels.specs.Definitions.{Def}
+
+-- a colour definition: typ 0, asoc 1 to 65534
+abbrev pub Colour : Def → Type 0
+Colour d = (d .typ ≡ 0) × (1 ≤ d .asoc) × (d .asoc ≤ 65534)
+
+-- d and e are the same definition
+unfoldable pub same : Def → Def → Bool
+same d e = eqb (d .channel) (e .channel) && eqb (d .typ) (e .typ) && eqb (d .asoc) (e .asoc)
+
+-- how often d stands in a list
+unfoldable pub times : Def → List Def → ℕ
+times d [] = 0
+times d (e ∷ es) = pick (same d e) (suc (times d es)) (times d es)
+
+-- the same definitions, each as often
+abbrev pub Reordered : List Def → List Def → Type 0
+Reordered ds es = (d : Def) → times d ds ≡ times d es

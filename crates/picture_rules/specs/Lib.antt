@@ -1,0 +1,17 @@
+pub mod Definitions
+pub mod Order
+pub mod Flat
+pub mod Rules
+pub mod OrderCases
+pub mod Image
+pub mod Channels
+pub mod Samples
+pub mod Check
+pub mod Finish
+pub mod Refusals
+pub mod Words
+pub mod PictureRule
+pub mod EveryPicture
+pub mod OrderFreedom
+pub mod Cases
+pub mod Met

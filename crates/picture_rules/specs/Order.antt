@@ -1,0 +1,42 @@
+-- Document 01, "Colour, palette, order": what definitions, run in their order, make of the records of n channels.
+use Prim.Native.Nat.{ℕ, _+_, _-_}
+use mathlib.Core.List.{List, [], _∷_}
+use Rattle.box_number.specs.Table.{_=?_, _<?_, _or_, _and_, otherwise, _⇒_∣_, table}
+use Rattle.read_channels.specs.Definitions.{Def}
+
+-- where each channel stands, and number k of the record at each position
+pub record Arranged : Type 0 where
+  pub seat : ℕ → ℕ
+  pub records : ℕ → ℕ → ℕ
+
+-- the position that x becomes when positions p and q are exchanged
+unfoldable pub exchange : ℕ → ℕ → ℕ → ℕ
+exchange p q x = table (x =? p ⇒ q ∣ x =? q ⇒ p ∣ otherwise x)
+
+-- the records at p and q swap, and the channels with them
+abbrev pub swapped : ℕ → ℕ → Arranged → Arranged
+swapped p q a = record { seat = λ c. exchange p q (a .seat c); records = λ r k. a .records (exchange p q r) k }
+
+-- the record at position p takes a mark, its last number
+abbrev pub marked : ℕ → ℕ → Arranged → Arranged
+marked p typ a = record { seat = a .seat; records = λ r k. table (r =? p and k =? 12 ⇒ typ ∣ otherwise (a .records r k)) }
+
+-- one definition. A current position, or a wanted one, without a record passes it over; asoc 0 or 65535 only marks; a colour's record swaps to its place, and the
+-- record that is then at the old position takes the mark (difference 31).
+unfoldable pub define : ℕ → Def → Arranged → Arranged
+define n d a =
+    let p = a .seat (d .channel) in
+    table
+    (n <? p + 1 ⇒ a
+    ∣ d .asoc =? 0 or d .asoc =? 65535 ⇒ marked p (d .typ) a
+    ∣ n <? d .asoc ⇒ a
+    ∣ d .typ =? 0 ⇒ marked p 0 (swapped p (d .asoc - 1) a)
+    ∣ otherwise (marked p (d .typ) a))
+
+unfoldable pub run : ℕ → List Def → Arranged → Arranged
+run n [] a = a
+run n (d ∷ ds) a = run n ds (define n d a)
+
+-- from the start, where channel c stands at position c
+abbrev pub arranged : ℕ → List Def → (ℕ → ℕ → ℕ) → Arranged
+arranged n ds records = run n ds (record { seat = λ c. c; records = records })

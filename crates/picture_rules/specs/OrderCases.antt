@@ -1,0 +1,61 @@
+-- The marked cases of document 01 on order, as one table that is computed whole. Planes are named by the record that stands there; every record has mark 9 at the start.
+use Prim.Native.Nat.{ℕ, zero, suc}
+use mathlib.Core.Path.{_≡_, refl}
+use mathlib.Core.List.{List, [], _∷_, _++_}
+use Rattle.box_number.specs.Table.{_=?_, otherwise, _⇒_∣_, table}
+use Rattle.read_channels.specs.Definitions.{Def, def}
+use Rattle.picture_rules.specs.Order.{exchange, define, run, arranged}
+
+-- a finished plane: its record and its mark
+infix 80 _mark_
+pub data Plane : Type 0 where
+  _mark_ : ℕ → ℕ → Plane
+
+-- a table of definitions over n planes, and the finished planes that each list of them is to give
+infixr 20 _planes_give_∣_
+pub data Cases : Type 0 where
+  end : Cases
+  _planes_give_∣_ : ℕ → List Def → List Plane → Cases → Cases
+
+abbrev pub A : ℕ
+A = 0
+
+abbrev pub B : ℕ
+B = 1
+
+abbrev pub C : ℕ
+C = 2
+
+abbrev pub D : ℕ
+D = 3
+
+abbrev pub cases : Cases
+cases =
+    -- A, B, C with (0,0,3), (1,0,2), (2,0,1): C, B, A
+    3 planes def 0 0 3 ∷ def 1 0 2 ∷ def 2 0 1 ∷ [] give C mark 0 ∷ B mark 0 ∷ A mark 9 ∷ [] ∣
+    -- A, B, C, D with (2,0,1), (0,0,2), (1,1,0), (3,1,0): C, A, B, D
+    4 planes def 2 0 1 ∷ def 0 0 2 ∷ def 1 1 0 ∷ def 3 1 0 ∷ [] give C mark 9 ∷ A mark 0 ∷ B mark 1 ∷ D mark 1 ∷ [] ∣
+    -- (0,1,0), (1,0,1): B, A and A's mark 0; swapped, mark 1
+    2 planes def 0 1 0 ∷ def 1 0 1 ∷ [] give B mark 9 ∷ A mark 0 ∷ [] ∣
+    2 planes def 1 0 1 ∷ def 0 1 0 ∷ [] give B mark 9 ∷ A mark 1 ∷ [] ∣
+    end
+
+-- the record of channel r before any definition
+unfoldable pub fresh : ℕ → ℕ → ℕ
+fresh r k = table (k =? 12 ⇒ 9 ∣ otherwise r)
+
+unfoldable pub finished : ℕ → (ℕ → ℕ → ℕ) → List Plane
+finished zero records = []
+finished (suc p) records = finished p records ++ (records p 0 mark records p 12 ∷ [])
+
+abbrev pub given : Cases → List (List Plane)
+given end = []
+given (n planes ds give ps ∣ rest) = finished n (arranged n ds fresh .records) ∷ given rest
+
+abbrev pub expected : Cases → List (List Plane)
+expected end = []
+expected (n planes ds give ps ∣ rest) = ps ∷ expected rest
+
+pub order-cases : given cases ≡ expected cases
+unfolding table exchange define run fresh finished
+order-cases = refl

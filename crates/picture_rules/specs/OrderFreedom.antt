@@ -1,0 +1,37 @@
+-- Demand 3, order freedom: in whatever order a camera lists its definitions, the finished picture is the same.
+use Prim.Native.Nat.{ℕ, _<_}
+use mathlib.Core.Path.{_≡_}
+use mathlib.Core.List.{List}
+use Rattle.read_record.specs.declared.Jp2.{Jp2}
+use Rattle.read_record.specs.Answer.{accepted}
+use Rattle.read_file.specs.File.{read}
+use Rattle.read_rules.specs.Alike.{given, Alike}
+use Rattle.read_rules.specs.Alike as reading
+use Rattle.read_channels.specs.Definitions.{definitions}
+use Rattle.picture_rules.specs.Definitions.{Reordered}
+use Rattle.picture_rules.specs.Image.{Image, component}
+use Rattle.picture_rules.specs.Words.{Handed, Accepted, IsAccepted, Defined, Clear}
+
+-- the same picture with another file
+abbrev pub withFile : List ℕ → Handed → Handed
+withFile g h = record { file = g; image = h .image; ignore = h .ignore; records = h .records; samples = h .samples }
+
+-- pictures alike in all but the order of definitions, of which the first file is read: everything handed in is equal, except that the definition list in the file holds the
+-- same definitions, each as often, in another order
+pub record AlikeButOrder (h : Handed) (g : List ℕ) (m : Jp2) : Type 0 where
+  pub reads : given (read (h .file)) ≡ accepted m
+  pub alike : Alike (h .file) g (reading.definitions m)
+  pub reordered : Reordered (definitions (h .file) (m .lists .cdef)) (definitions g (m .lists .cdef))
+
+-- equal finished records, marks aside, and equal finished samples
+pub record SamePlanes (planes others : Image) : Type 0 where
+  pub count : others .count ≡ planes .count
+  pub records : (p k : ℕ) → p < planes .count → k < 12 → component others p k ≡ component planes p k
+  pub samples : others .samples ≡ planes .samples
+
+pub record OrderFreedom : Type 0 where
+  -- both are accepted or neither
+  pub both : (h : Handed) (g : List ℕ) (m : Jp2) → AlikeButOrder h g m → IsAccepted h → IsAccepted (withFile g h)
+  pub neither : (h : Handed) (g : List ℕ) (m : Jp2) → AlikeButOrder h g m → IsAccepted (withFile g h) → IsAccepted h
+  -- and where they are, with definitions that clash nowhere, they have the same planes at the same places
+  pub same : (h : Handed) (g : List ℕ) (m k : Jp2) (planes others : Image) → AlikeButOrder h g m → Accepted h m planes → Accepted (withFile g h) k others → Defined h m → Clear h m → SamePlanes planes others

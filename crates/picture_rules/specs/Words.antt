@@ -1,0 +1,61 @@
+-- Document 01, "Words of demand 3", each as a definition.
+use Prim.Native.Nat.{ℕ, _<_}
+use mathlib.Core.Path.{_≡_}
+use mathlib.Core.List.{List}
+use lib.IntN.{ℤ}
+use Rattle.read_record.specs.declared.Jp2.{Jp2}
+use Rattle.read_record.specs.Answer.{accepted}
+use Rattle.read_file.specs.File.{read}
+use Rattle.read_rules.specs.Alike.{given}
+use Rattle.read_channels.specs.Definitions.{definitions}
+use Rattle.picture_rules.specs.Rules.{Once}
+use Rattle.picture_rules.specs.Image.{Image, width, height, first, none, sampleAt}
+use Rattle.picture_rules.specs.Channels.{componentOf}
+use Rattle.picture_rules.specs.Samples.{valueOf}
+use Rattle.picture_rules.specs.Finish.{finished, finish}
+
+-- all that is handed in: the file's bytes, the components and their samples, the ignore flag, and the lengths of the two destinations
+pub record Handed : Type 0 where
+  pub file : List ℕ
+  pub image : Image
+  pub ignore : ℕ
+  pub records : ℕ
+  pub samples : ℕ
+
+-- file and image are accepted: reading answers no number, and finishing with the record from reading answers none
+pub record Accepted (h : Handed) (m : Jp2) (planes : Image) : Type 0 where
+  pub reading : given (read (h .file)) ≡ accepted m
+  pub finishing : finish (h .file) m (h .ignore) (h .image) (h .records) (h .samples) ≡ finished planes
+
+-- accepted, with some record and some planes
+abbrev pub IsAccepted : Handed → Type 0
+IsAccepted h = (m : Jp2) × (planes : Image) × Accepted h m planes
+
+-- definitions are present, and applied
+pub record Defined (h : Handed) (m : Jp2) : Type 0 where
+  pub present : 0 < m .lists .cdef .count
+  pub applied : h .ignore ≡ 0
+
+-- no channel is defined twice, and no colour number given twice
+abbrev pub Clear : Handed → Jp2 → Type 0
+Clear h m = Once (definitions (h .file) (m .lists .cdef))
+
+-- channel c's component
+abbrev pub source : Handed → Jp2 → ℕ → ℕ
+source h m c = componentOf (h .file) m c
+
+-- channel c's sample at row y, column x: its component's or, with type 1, what the palette's column c has for it
+abbrev pub channelSample : Handed → Jp2 → ℕ → ℕ → ℕ → ℤ
+channelSample h m c y x = valueOf (h .file) m (h .image .count) c (sampleAt (h .image) (source h m c) y x)
+
+-- channel c's component has no samples
+abbrev pub Empty : Handed → Jp2 → ℕ → Type 0
+Empty h m c = first (h .image) (source h m c) ≡ none
+
+-- channel c fills plane p
+pub record Fills (h : Handed) (m : Jp2) (planes : Image) (c p : ℕ) : Type 0 where
+  pub wide : width planes p ≡ width (h .image) (source h m c)
+  pub high : height planes p ≡ height (h .image) (source h m c)
+  pub empty : Empty h m c → first planes p ≡ none
+  pub empty-only : first planes p ≡ none → Empty h m c
+  pub sample : (Empty h m c → ⊥) → (y x : ℕ) → y < height planes p → x < width planes p → sampleAt planes p y x ≡ channelSample h m c y x

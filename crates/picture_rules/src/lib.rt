@@ -1,0 +1,3 @@
+// The order of a picture's planes: definitions and theorems. The code, `opj_jp2_apply_cdef` of jp2.rs, is in picture_order.
+
+// The finished picture (`opj_jp2_check_color`, `opj_jp2_apply_pclr` and `opj_jp2_apply_color_postprocessing` of jp2.rs): its definitions, and demand 3.

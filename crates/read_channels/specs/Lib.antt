@@ -1,0 +1,3 @@
+pub mod Cmap
+pub mod Cdef
+pub mod Definitions

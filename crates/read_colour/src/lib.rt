@@ -1,0 +1,84 @@
+// The colour specification box (I.5.3.3).
+// Every reader of a box has this signature: the box's content, the place where the box starts, where its content starts, and the record before it.
+ghost use mathlib.Core.Path.{_≡_};
+ghost use Rattle.read_record.specs.Answer.{answer};
+ghost use Rattle.read_colour.specs.Colr.{lab, colr};
+use read_record::Jp2;
+use read_record::Lab;
+use read_record::Outcome;
+use read_record::Span;
+
+// The numbers of CIELab, from the content of a colr box.
+fn read_lab(c: &[u8]) -> Lab
+    ensures { λ r. ⌜ r ≡ lab (now (c .entry)) ⌝ }
+{
+    if c.len() == 7 {
+        return Lab {
+            numbers: [14, 0, 0, 0, 0, 0, 0, 0x443530, 0],
+            count: 8,
+        };
+    }
+    if c.len() == 35 {
+        let rl = box_number::read_u32(c, 7);
+        let ol = box_number::read_u32(c, 11);
+        let ra = box_number::read_u32(c, 15);
+        let oa = box_number::read_u32(c, 19);
+        let rb = box_number::read_u32(c, 23);
+        let ob = box_number::read_u32(c, 27);
+        let il = box_number::read_u32(c, 31);
+        return Lab {
+            numbers: [14, 0, rl, ol, ra, oa, rb, ob, il],
+            count: 9,
+        };
+    }
+    Lab {
+        numbers: [14, 0x44454600, 0, 0, 0, 0, 0, 0, 0x443530],
+        count: 9,
+    }
+}
+
+pub fn opj_jp2_read_colr(c: &[u8], place: u32, start: u32, j: Jp2) -> Outcome
+    ensures { λ r. ⌜ r ≡ answer j (colr place start (now (c .entry)) j) ⌝ }
+{
+    let n = c.len();
+    if n < 3 {
+        return Outcome::refused(16, place, j);
+    }
+    let mut colour = j.colour;
+    if colour.held != 0 {
+        return Outcome::done(j);
+    }
+    colour.meth = box_number::read_u8(c, 0) as u32;
+    colour.precedence = box_number::read_u8(c, 1) as u32;
+    colour.approx = box_number::read_u8(c, 2) as u32;
+    let mut k = j;
+    if colour.meth == 1 {
+        if n < 7 {
+            return Outcome::refused(16, place, j);
+        }
+        colour.enumcs = box_number::read_u32(c, 3);
+        colour.held = 1;
+        if colour.enumcs == 14 {
+            let lab = read_lab(c);
+            colour.lab = lab;
+            k.colour = colour;
+            return Outcome::done(k);
+        }
+        k.colour = colour;
+        return Outcome::done(k);
+    }
+    if colour.meth == 2 {
+        let icc = Span {
+            place: start as usize + 3,
+            count: n - 3,
+        };
+        let mut lists = j.lists;
+        lists.icc = icc;
+        colour.held = 1;
+        k.colour = colour;
+        k.lists = lists;
+        return Outcome::done(k);
+    }
+    k.colour = colour;
+    Outcome::done(k)
+}

@@ -1,0 +1,100 @@
+-- The loop over the boxes of a file: what is left to split and run comes to what the whole does.
+-- Assumes nothing.
+use Prim.Native.Nat.{ℕ, zero, suc, _+_, _-_, _≤_, _<_}
+use native.Mathlib.Omega.{arith}
+use mathlib.Core.Path.{_≡_, refl, sym, ap, _∙_}
+use mathlib.Core.List.{List}
+use lib.ListN.{length, take, drop, length-drop}
+use Rattle.box_number.proofs.Rows.{row}
+use Rattle.box_number.proofs.Numbers.{rest-is}
+use Rattle.box_header.proofs.Headers.{header-least}
+use Rattle.box_header.specs.declared.Jp2BoxHeader.{Jp2BoxHeader}
+use Rattle.read_record.specs.declared.Jp2.{Jp2}
+use Rattle.read_record.specs.declared.Outcome.{Outcome}
+use Rattle.read_record.specs.declared.Answer.the-variants.{Done, Refused}
+use Rattle.read_record.specs.Answer.{answer}
+use Rattle.read_record.proofs.Told.{answer-done, answer-refused}
+use Rattle.read_jp2h.specs.Split.{firstBox, split, boxes}
+use Rattle.read_jp2h.proofs.Faults.{split-none}
+use Rattle.read_file.specs.declared.Found.{Found}
+use Rattle.read_file.specs.declared.Found.the-variants.{Nothing, Codestream, Short, Past, Whole}
+use Rattle.read_file.specs.File.{Walked, ended, turnedDown, stream, outer, run, walk}
+use Rattle.read_file.specs.Turn.{found, Heads, boxAt, pastKind}
+use Rattle.read_file.proofs.Turns.{found-tells}
+
+-- c, at a place of the file, is what is left: run from the record k it comes to w
+pub record Going (w : Walked) (at : ℕ) (c : List ℕ) (k : Jp2) : Type 0 where
+  pub fuel : ℕ
+  pub enough : length c ≤ fuel
+  pub room : at + length c ≤ 4294967295
+  pub same : run (split fuel at c) k ≡ w
+
+pub going-start : (f : List ℕ) (j : Jp2) → length f ≤ 4294967295 → Going (run (boxes 0 f) j) 0 f j
+going-start f j h = record { fuel = length f; enough = omega arith; room = omega arith; same = refl }
+
+module _ {w : Walked} {at : ℕ} {c : List ℕ} {k : Jp2} (g : Going w at c k) where
+  pub going-end : length c ≡ 0 → ended k ≡ w
+  unfolding run
+  going-end z = rw (split-none at c (g .fuel) z) at (g .same)
+
+  module _ (some : 0 < length c) {r : Found} (e : r ≡ found c) where
+    -- with one more of the fuel
+    with-fuel : (P : ℕ → Type 0) → ((n : ℕ) → P (suc n)) → P (g .fuel)
+    with-fuel P h = go (g .fuel) (g .enough)
+      where
+        go : (n : ℕ) → length c ≤ n → P n
+        go zero l = absurd (omega arith)
+        go (suc n) l = h n
+
+    -- the walk comes to what the boxes of c run to
+    runs-to : {v : Walked} → ((n : ℕ) → run (split (suc n) at c) k ≡ v) → v ≡ w
+    runs-to {v} h = with-fuel (λ (n : ℕ). run (split n at c) k ≡ w → v ≡ w) (λ n s. sym (h n) ∙ s) (g .same)
+
+    pub going-none : r ≡ Nothing → ended k ≡ w
+    going-none f = runs-to (λ n. found-tells at c k n some e f)
+
+    pub going-header : {m : ℕ} → r ≡ Codestream m → m ≤ length c
+    going-header f = found-tells at c k 0 some e f .0
+
+    pub going-stream : {m : ℕ} → r ≡ Codestream m → stream (boxAt at (at + m)) k ≡ w
+    going-stream f = runs-to (λ n. found-tells at c k n some e f .1)
+
+    pub going-short : r ≡ Short → turnedDown 3 at ≡ w
+    going-short f = runs-to (λ n. found-tells at c k n some e f)
+
+    pub going-past : {h : Jp2BoxHeader} → r ≡ Past h → pastKind (h .ty) at k ≡ w
+    going-past f = runs-to (λ n. found-tells at c k n some e f)
+
+    module _ {h : Jp2BoxHeader} (f : r ≡ Whole h) where
+      pub going-heads : Heads at c h
+      going-heads =
+          let t = found-tells at c k 0 some e f in
+          record { ty = ap (λ (x : Jp2BoxHeader). x .ty) (t .0); long = ap (λ (x : Jp2BoxHeader). x .length) (t .0); head = ap (λ (x : Jp2BoxHeader). x .«header_length») (t .0); least = t .1; most = t .2; room = g .room }
+
+      pub going-fits : (8 ≤ h .length) × (h .length ≤ length c)
+      going-fits = let p = going-heads in omega (arith, header-least c, p .long, p .least, p .most)
+
+      pub going-less : length (take (length c - h .length) (drop (h .length) c)) < length c
+      going-less = let q = going-fits in rw (rest-is c (h .length), length-drop) (omega arith)
+
+      module _ {o : Outcome} (d : o ≡ answer k (outer (firstBox at c) k)) where
+        pub going-down : {n p : ℕ} → o .answer ≡ Refused n p → turnedDown n p ≡ w
+        going-down a = runs-to (λ n. found-tells at c k n some e f .3 ∙ rw (answer-refused k (outer (firstBox at c) k) d a))
+
+        pub going-on : o .answer ≡ Done → Going w (at + h .length) (take (length c - h .length) (drop (h .length) c)) (o .jp2)
+        going-on a = rw (rest-is c (h .length)) (with-fuel (λ (n : ℕ). length c ≤ n → run (split n at c) k ≡ w → Going w (at + h .length) (drop (h .length) c) (o .jp2)) on (g .enough) (g .same))
+          where
+            on : (n : ℕ) → length c ≤ suc n → run (split (suc n) at c) k ≡ w → Going w (at + h .length) (drop (h .length) c) (o .jp2)
+            on n l s =
+                let q = going-fits in
+                record {
+                  fuel = n;
+                  enough = rw length-drop (omega arith);
+                  room = rw length-drop (omega (arith, g .room));
+                  same = rw (going-heads .long) (rw (answer-done k (outer (firstBox at c) k) d a) at (sym (found-tells at c k n some e f .3) ∙ s));
+                }
+
+-- the ways through the walk
+pub walked : (f : List ℕ) (j : Jp2) {w : Walked} → length f ≤ 4294967295 → w ≡ run (boxes 0 f) j → w ≡ walk f j
+unfolding walk
+walked f j h e = row 1 _ (h, tt) e

@@ -1,0 +1,258 @@
+// The walk through a file (I.2.2): its boxes, one after the other, up to the codestream.
+ghost use Prim.Native.Nat.{_+_, _≤_};
+ghost use mathlib.Core.Path.{_≡_};
+ghost use lib.ListN.{length};
+ghost use Rattle.box_number.specs.Table.{holds};
+ghost use Rattle.box_kind.specs.Kind.{kindOf, numberOf};
+ghost use Rattle.read_record.specs.Record.{blank};
+ghost use Rattle.read_record.specs.State.{withBit, unknown, withUnknown};
+ghost use Rattle.read_record.specs.Answer.{accepted, answer};
+ghost use Rattle.read_file.specs.File.{ended, turnedDown, stream, other, outer, walk, read, reading};
+ghost use Rattle.read_file.specs.Turn.{found, Heads, box, boxAt, isRead, isEarly, inner, pastKind};
+ghost use Rattle.read_jp2h.specs.Split.{firstBox};
+use box_header::Jp2BoxHeader;
+use box_header::ReadHeader;
+use box_kind::Jp2BoxType;
+use read_record::Answer;
+use read_record::Jp2;
+use read_record::Outcome;
+
+// What reading a file answers: the codestream's offset, "ended", or document 01's number and the place.
+pub enum FileAnswer {
+    Codestream(u32),
+    Ended,
+    Refused(u32, u32),
+}
+
+// An answer and the record after it.
+pub struct Reading {
+    pub answer: FileAnswer,
+    pub jp2: Jp2,
+}
+
+// What stands at a place of the file: no box, the codestream with its header's length, a box that is shorter than its header, one that reaches past the end, or a whole one.
+// The last two have the header as it was read: a kind alone would lie elsewhere, and be put together from its bytes at each box.
+pub enum Found {
+    Nothing,
+    Codestream(u32),
+    Short,
+    Past(Jp2BoxHeader),
+    Whole(Jp2BoxHeader),
+}
+
+fn find_box(c: &[u8]) -> Found
+    ensures { λ r. ⌜ r ≡ found (now (c .entry)) ⌝ }
+{
+    let ReadHeader::Header(h) = Jp2BoxHeader::from_stream(c) else {
+        return Found::Nothing;
+    };
+    let ty = h.ty;
+    if let Jp2BoxType::JP2C = ty {
+        return Found::Codestream(h.header_length);
+    }
+    if h.length < h.header_length {
+        return Found::Short;
+    }
+    if c.len() < h.length as usize {
+        return Found::Past(h);
+    }
+    Found::Whole(h)
+}
+
+fn turned_down(number: u32, place: u32, j: Jp2) -> Reading
+    ensures { λ r. ⌜ r ≡ reading j (turnedDown number place) ⌝ }
+{
+    Reading {
+        answer: FileAnswer::Refused(number, place),
+        jp2: j,
+    }
+}
+
+fn over(k: Jp2) -> Reading
+    ensures { λ r. ⌜ r ≡ reading k (ended k) ⌝ }
+{
+    Reading {
+        answer: FileAnswer::Ended,
+        jp2: k,
+    }
+}
+
+// A state with all 31 low bits.
+fn with_unknown(state: u32) -> u32
+    ensures { λ r. ⌜ r ≡ unknown state ⌝ }
+{
+    state / 2147483648 * 2147483648 + 2147483647
+}
+
+// A state with the codestream bit.
+fn with_stream(state: u32) -> u32
+    ensures { λ r. ⌜ r ≡ withBit 8 state ⌝ }
+{
+    if state / 8 % 2 == 0 {
+        return state + 8;
+    }
+    state
+}
+
+// The codestream box, whose content starts at start; j is the record before the file.
+fn read_stream(at: u32, start: u32, k: Jp2, j: Jp2) -> Reading
+    ensures { λ r. ⌜ r ≡ reading j (stream (boxAt at start) k) ⌝ }
+{
+    let mut status = k.status;
+    if status.state / 4 % 2 == 0 {
+        return turned_down(2, at, j);
+    }
+    status.state = with_stream(status.state);
+    let mut m = k;
+    m.status = status;
+    Reading {
+        answer: FileAnswer::Codestream(start),
+        jp2: m,
+    }
+}
+
+// The record once a box was skipped.
+fn skip(k: Jp2) -> Outcome
+    ensures { λ r. ⌜ r ≡ answer k (accepted (withUnknown k)) ⌝ }
+{
+    let mut status = k.status;
+    status.state = with_unknown(status.state);
+    let mut m = k;
+    m.status = status;
+    Outcome::done(m)
+}
+
+// A box that is not read: it is skipped once signature and file type have come.
+fn read_other(at: u32, start: u32, k: Jp2) -> Outcome
+    ensures { λ r. ⌜ r ≡ answer k (other (boxAt at start) k) ⌝ }
+{
+    let status = k.status;
+    if status.state % 2 == 0 {
+        return Outcome::refused(5, at, k);
+    }
+    if status.state / 2 % 2 == 0 {
+        return Outcome::refused(6, at, k);
+    }
+    skip(k)
+}
+
+// Whether boxes of this kind are read, in the file or in jp2h.
+fn is_read(ty: Jp2BoxType) -> bool
+    ensures { λ r. ⌜ r ≡ holds (isRead ty) ⌝ }
+{
+    if ty.is_file_header() {
+        return true;
+    }
+    ty.is_image_header()
+}
+
+// Whether this is a box of jp2h that comes before the header bit is set.
+fn is_early(ty: Jp2BoxType, state: u32) -> bool
+    ensures { λ r. ⌜ r ≡ holds (isEarly ty state) ⌝ }
+{
+    if ty.is_image_header() {
+        return state / 4 % 2 == 0;
+    }
+    false
+}
+
+// A box of the file other than jP and ftyp.
+fn read_inner(ty: Jp2BoxType, c: &[u8], at: u32, start: u32, k: Jp2) -> Outcome
+    ensures { λ r. ⌜ r ≡ answer k (inner ty at start (now (c .entry)) k) ⌝ }
+{
+    let status = k.status;
+    if is_early(ty, status.state) {
+        return skip(k);
+    }
+    if is_read(ty) {
+        return read_jp2h::read_header_box(ty, c, at, start, k);
+    }
+    read_other(at, start, k)
+}
+
+// The content of a box of the file, by the reader of its kind.
+fn read_outer(ty: Jp2BoxType, c: &[u8], at: u32, start: u32, k: Jp2) -> Outcome
+    requires { ⌜ (ty ≡ kindOf (numberOf ty)) × (start + length (now c) ≤ 4294967295) ⌝ }
+    ensures { λ r. ⌜ r ≡ answer k (outer (box (numberOf ty) at start (now (c .entry))) k) ⌝ }
+{
+    match ty {
+        Jp2BoxType::JP => read_signature::opj_jp2_read_jp(c, at, start, k),
+        Jp2BoxType::FTYP => read_signature::opj_jp2_read_ftyp(c, at, start, k),
+        _ => read_inner(ty, c, at, start, k),
+    }
+}
+
+// A box that reaches past the end; j is the record before the file.
+fn read_past(ty: Jp2BoxType, at: u32, k: Jp2, j: Jp2) -> Reading
+    ensures { λ r. ⌜ r ≡ reading j (pastKind ty at k) ⌝ }
+{
+    if is_read(ty) {
+        return turned_down(4, at, j);
+    }
+    let outcome = read_other(at, 0, k);
+    let answer = outcome.answer;
+    if let Answer::Refused(n, p) = answer {
+        return turned_down(n, p, j);
+    }
+    over(outcome.jp2)
+}
+
+// A box that lies in the file, from c's first byte on, with the header that was found there.
+fn read_whole(c: &[u8], at: u32, h: Jp2BoxHeader, k: Jp2) -> Outcome
+    requires { ⌜ Heads at (now c) h ⌝ }
+    ensures { λ r. ⌜ r ≡ answer k (outer (firstBox at (now (c .entry))) k) ⌝ }
+{
+    let content = box_number::part(c, h.header_length as usize, h.length as usize);
+    let start = at + h.header_length;
+    let ty = h.ty;
+    read_outer(ty, content, at, start, k)
+}
+
+// A file, read from a record on. What stands at a place is told without the record, so that a turn copies it no more often than its reader does.
+pub fn opj_jp2_read_header_procedure(s: &[u8], j: Jp2) -> Reading
+    ensures { λ r. ⌜ r ≡ reading j (walk (now (s .entry)) j) ⌝ }
+{
+    if 4294967295 < s.len() {
+        return turned_down(1, 0, j);
+    }
+    let mut k = j;
+    let mut rest = s;
+    let mut at: u32 = 0;
+    while 0 < rest.len() {
+        let found = find_box(rest);
+        match found {
+            Found::Nothing => {
+                return over(k);
+            }
+            Found::Codestream(n) => {
+                return read_stream(at, at + n, k, j);
+            }
+            Found::Short => {
+                return turned_down(3, at, j);
+            }
+            Found::Past(h) => {
+                let ty = h.ty;
+                return read_past(ty, at, k, j);
+            }
+            Found::Whole(h) => {
+                let outcome = read_whole(rest, at, h, k);
+                let answer = outcome.answer;
+                if let Answer::Refused(n, p) = answer {
+                    return turned_down(n, p, j);
+                }
+                let size = h.length as usize;
+                rest = &rest[size..];
+                at = at + h.length;
+                k = outcome.jp2;
+            }
+        }
+    }
+    over(k)
+}
+
+// A file, read from the record before any box.
+pub fn read_file(s: &[u8]) -> Reading
+    ensures { λ r. ⌜ r ≡ reading blank (read (now (s .entry))) ⌝ }
+{
+    opj_jp2_read_header_procedure(s, read_record::opj_jp2_create())
+}

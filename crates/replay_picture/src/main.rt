@@ -1,0 +1,150 @@
+// Finishes each picture of a list and compares the answer and every number of both destinations with what the list holds, which is the crate's answer.
+// The list is made of the seed 1; oracle/README.md has its form ("The replay list").
+ghost use mathlib.Core.Path.{_≡_};
+ghost use lib.ListN.{length};
+use libc::STDIN_FILENO;
+use libc::STDOUT_FILENO;
+
+mod compare;
+mod list;
+mod put;
+
+// tally counts what the pictures come to: finished in place 0, the refusal n in place n, those that differ from the list in place 31.
+fn main() {
+    let mut list = list_room();
+    let n = io::read_full(STDIN_FILENO, &mut list);
+    let mut room = samples_room();
+    let mut tally = [0usize; 32];
+    let cases = each_case(&list[..n], &mut room, &mut tally);
+    say(b"cases: #\n", &[cases as usize]);
+    say(
+        b"finished: #\n\
+           refused 1: #\n\
+           refused 2: #\n\
+           refused 3: #\n\
+           refused 4: #\n\
+           refused 5: #\n\
+           refused 6: #\n\
+           refused 7: #\n\
+           refused 8: #\n\
+           refused 9: #\n\
+           refused 10: #\n\
+           refused 11: #\n\
+           refused 12: #\n\
+           refused 13: #\n\
+           refused 14: #\n\
+           refused 15: #\n\
+           refused 16: #\n\
+           refused 17: #\n\
+           refused 18: #\n\
+           refused 19: #\n\
+           refused 20: #\n\
+           refused 21: #\n\
+           refused 22: #\n\
+           refused 23: #\n\
+           refused 24: #\n\
+           refused 25: #\n\
+           refused 26: #\n\
+           refused 27: #\n\
+           refused 28: #\n\
+           refused 29: #\n\
+           refused 30: #\n\
+           differing: #\n",
+        &tally,
+    );
+}
+
+// The list has to fit in.
+fn list_room() -> [u8; 1500000]
+    ensures { λ r. ⌜ 1500000 ≡ length r ⌝ }
+{
+    [0; 1500000]
+}
+
+// The longest destination for samples has to fit in.
+fn samples_room() -> [i32; 261120]
+    ensures { λ r. ⌜ 261120 ≡ length r ⌝ }
+{
+    [0; 261120]
+}
+
+// A shape in which each # stands for the next of the numbers.
+pub fn say(shape: &[u8], numbers: &[usize]) {
+    let mut d = io::buffer();
+    let n = text::fill(&mut d, 0, shape, numbers);
+    io::write_all(STDOUT_FILENO, box_number::part(&d, 0, n));
+}
+
+// How many cases there are.
+fn each_case(list: &[u8], room: &mut [i32], tally: &mut [usize]) -> u32 {
+    let cases = list::number(list, 0);
+    let mut rest = box_number::part(list, 4, list.len());
+    let mut i: u32 = 0;
+    while i < cases {
+        let taken = list::bytes(rest);
+        count(tally, case(i, rest, room));
+        rest = &rest[taken..];
+        i = i + 1;
+    }
+    cases
+}
+
+// The place in the tally of what picture i comes to. Its lists are laid out first.
+fn case(i: u32, picture: &[u8], room: &mut [i32]) -> usize {
+    let mut comps = [0u32; 128];
+    let mut samples = [0i32; 128];
+    let mut records = [0u32; 128];
+    let listed_comps = list::components(picture);
+    let comps_length = list::length(listed_comps, 0, 128);
+    put::numbers(listed_comps, &mut comps);
+    let listed_samples = list::samples(picture);
+    let samples_length = list::length(listed_samples, 0, 128);
+    put::samples(listed_samples, &mut samples);
+    let rooms = list::rooms(picture);
+    let records_length = list::length(rooms, 0, 128);
+    let planes_length = list::length(rooms, 1, room.len());
+    outcome(
+        i,
+        picture,
+        &comps[..comps_length],
+        &samples[..samples_length],
+        &mut records[..records_length],
+        &mut room[..planes_length],
+    )
+}
+
+// The same, with the lists lent. No answer is 9 9 9 9.
+fn outcome(
+    i: u32,
+    picture: &[u8],
+    comps: &[u32],
+    samples: &[i32],
+    records: &mut [u32],
+    planes: &mut [i32],
+) -> usize {
+    let mut answer = [9u64; 4];
+    let flag = list::flag(picture);
+    put::pattern(records, planes);
+    cuzhantir::cuzhantir_picture(
+        list::file(picture),
+        list::number(flag, 0),
+        comps,
+        list::number(flag, 1),
+        samples,
+        records,
+        planes,
+        &mut answer,
+    );
+    compare::outcome(i, picture, &answer, records, planes)
+}
+
+fn count(tally: &mut [usize], k: usize) {
+    if k < tally.len() {
+        tally[k] = std::num::wrapping_add_usize(tally[k], 1);
+    }
+}
+
+// Number i, 0 past the last.
+pub fn at(numbers: &[u64], i: usize) -> u64 {
+    if i < numbers.len() { numbers[i] } else { 0 }
+}

@@ -1,0 +1,47 @@
+// A case, what a reader answered, and numbers of the record after it.
+use libc::STDOUT_FILENO;
+use read_record::Answer;
+use read_record::Jp2;
+use read_record::Outcome;
+
+// A shape in which each # stands for the next of the numbers.
+fn say(shape: &[u8], numbers: &[usize]) {
+    let mut d = io::buffer();
+    let n = text::fill(&mut d, 0, shape, numbers);
+    io::write_all(STDOUT_FILENO, box_number::part(&d, 0, n));
+}
+
+pub fn came(case: &[u8], r: Outcome) -> Jp2 {
+    io::write_all(STDOUT_FILENO, case);
+    let a = r.answer;
+    answer(a);
+    let j = r.jp2;
+    record(j);
+    j
+}
+
+fn answer(a: Answer) {
+    match a {
+        Answer::Done => say(b" = done", &[]),
+        Answer::Refused(n, place) => say(b" = refused # at #", &[n as usize, place as usize]),
+    }
+}
+
+fn record(j: Jp2) {
+    say(
+        b"; state #, width #, depths #, colour #, columns #, mappings #, definitions #\n",
+        &[
+            wide(j.status.state),
+            wide(j.image.w),
+            j.lists.bpcc.count,
+            wide(j.colour.enumcs),
+            wide(j.lists.pclr.columns),
+            j.lists.cmap.count,
+            j.lists.cdef.count,
+        ],
+    );
+}
+
+fn wide(n: u32) -> usize {
+    n as usize
+}

@@ -1,0 +1,42 @@
+// A case, and what reading its file came to.
+use libc::STDOUT_FILENO;
+use read_file::FileAnswer;
+
+// A shape in which each # stands for the next of the numbers.
+fn say(shape: &[u8], numbers: &[usize]) {
+    let mut d = io::buffer();
+    let n = text::fill(&mut d, 0, shape, numbers);
+    io::write_all(STDOUT_FILENO, box_number::part(&d, 0, n));
+}
+
+pub fn came(case: &[u8], file: &[u8]) {
+    io::write_all(STDOUT_FILENO, case);
+    let r = read_file::read_file(file);
+    let a = r.answer;
+    answer(b" = ", a);
+    lent(file);
+}
+
+// The same over a lent record, and the width that stands in it afterwards.
+fn lent(file: &[u8]) {
+    let r = trial_lent::lend_header_procedure(file, read_record::opj_jp2_create());
+    let a = r.answer;
+    answer(b"; lent ", a);
+    say(b", width #\n", &[wide(r.jp2.image.w)]);
+}
+
+fn answer(before: &[u8], a: FileAnswer) {
+    io::write_all(STDOUT_FILENO, before);
+    match a {
+        FileAnswer::Codestream(offset) => say(b"codestream at #", &[offset as usize]),
+        FileAnswer::Ended => say(b"ended", &[]),
+        FileAnswer::Refused(number, place) => say(
+            b"refused # at #",
+            &[number as usize, place as usize],
+        ),
+    }
+}
+
+fn wide(n: u32) -> usize {
+    n as usize
+}

@@ -1,0 +1,251 @@
+// Text that is put together in a list that is lent, d. A function is given the place where the text goes, and answers the place after it.
+// What has no room in d is left out, so that nothing here can fail.
+ghost use Prim.Native.Nat.{_+_, _/_, _%_, _<_};
+ghost use mathlib.Core.Path.{_≡_};
+ghost use mathlib.Core.List.{[], _∷_, _++_};
+ghost use lib.ListN.{length, drop};
+ghost use Rattle.box_number.specs.Number.{least};
+ghost use Rattle.text.specs.Text.{put, after, decimal, filled, joined, line};
+ghost use Rattle.text.specs.Row.{values};
+ghost use Rattle.text.specs.Parts.{letter, marks, gap};
+ghost use Rattle.text.specs.Quote.{digit, escape, shown, together, front, quoted};
+
+fn byte(d: &mut [u8], at: usize, b: u8) -> usize
+    ensures { λ r. ⌜ (r ≡ after (now (d .entry)) at (b ∷ [])) × (now (d .exit) ≡ put (now (d .entry)) at (b ∷ [])) ⌝ }
+{
+    if d.len() <= at {
+        return at;
+    }
+    d[at] = b;
+    at + 1
+}
+
+// A text as it is.
+pub fn text(d: &mut [u8], at: usize, s: &[u8]) -> usize
+    ensures { λ r. ⌜ (r ≡ after (now (d .entry)) at (now (s .entry))) × (now (d .exit) ≡ put (now (d .entry)) at (now (s .entry))) ⌝ }
+{
+    let mut k = at;
+    let mut i = 0;
+    while i < s.len() {
+        k = byte(d, k, s[i]);
+        i += 1;
+    }
+    k
+}
+
+fn number(d: &mut [u8], at: usize, n: usize) -> usize
+    ensures { λ r. ⌜ (r ≡ after (now (d .entry)) at (decimal n)) × (now (d .exit) ≡ put (now (d .entry)) at (decimal n)) ⌝ }
+{
+    let mut digits = [0u8; 20];
+    let k = io::decimal(n as u64, &mut digits);
+    text(d, at, &digits[..k])
+}
+
+// A shape in which each # stands for the next of the numbers; where none is left, it stands for itself.
+pub fn fill(d: &mut [u8], at: usize, shape: &[u8], numbers: &[usize]) -> usize
+    ensures { λ r. ⌜ (r ≡ after (now (d .entry)) at (filled (now (shape .entry)) (now (numbers .entry)))) × (now (d .exit) ≡ put (now (d .entry)) at (filled (now (shape .entry)) (now (numbers .entry)))) ⌝ }
+{
+    let mut k = at;
+    let mut next = 0;
+    let mut i = 0;
+    while i < shape.len() {
+        k = letter(d, k, shape[i], numbers, next);
+        next = next + is(shape[i], b'#');
+        i += 1;
+    }
+    k
+}
+
+fn letter(d: &mut [u8], at: usize, b: u8, numbers: &[usize], next: usize) -> usize
+    ensures { λ r. ⌜ (r ≡ after (now (d .entry)) at (letter b (drop next (now (numbers .entry))))) × (now (d .exit) ≡ put (now (d .entry)) at (letter b (drop next (now (numbers .entry))))) ⌝ }
+{
+    if numbers.len() <= next {
+        return byte(d, at, b);
+    }
+    if b == b'#' {
+        return number(d, at, numbers[next]);
+    }
+    byte(d, at, b)
+}
+
+// 1 or 0.
+fn is(b: u8, c: u8) -> usize
+    ensures { λ r. ⌜ r ≡ marks b c ⌝ }
+{
+    if b == c {
+        return 1;
+    }
+    0
+}
+
+// Numbers, with a text between two.
+pub fn join(d: &mut [u8], at: usize, between: &[u8], numbers: &[u32]) -> usize
+    ensures { λ r. ⌜ (r ≡ after (now (d .entry)) at (joined (now (between .entry)) (now (numbers .entry)))) × (now (d .exit) ≡ put (now (d .entry)) at (joined (now (between .entry)) (now (numbers .entry)))) ⌝ }
+{
+    let mut k = at;
+    let mut i = 0;
+    while i < numbers.len() {
+        k = item(d, k, i, between, numbers[i]);
+        i += 1;
+    }
+    k
+}
+
+// Number i of some numbers.
+fn item(d: &mut [u8], at: usize, i: usize, between: &[u8], n: u32) -> usize
+    ensures { λ r. ⌜ (r ≡ after (now (d .entry)) at (gap i (now (between .entry)) ++ decimal n)) × (now (d .exit) ≡ put (now (d .entry)) at (gap i (now (between .entry)) ++ decimal n)) ⌝ }
+{
+    if i == 0 {
+        return number(d, at, n as usize);
+    }
+    let k = text(d, at, between);
+    number(d, k, n as usize)
+}
+
+// The values of a palette's row, a column each, with a text between two. The depths are those of the columns, and c starts with the row.
+pub fn row(d: &mut [u8], at: usize, between: &[u8], depths: &[u8], c: &[u8]) -> usize
+    ensures { λ r. ⌜ (r ≡ after (now (d .entry)) at (joined (now (between .entry)) (values (now (depths .entry)) (now (c .entry))))) × (now (d .exit) ≡ put (now (d .entry)) at (joined (now (between .entry)) (values (now (depths .entry)) (now (c .entry))))) ⌝ }
+{
+    let mut k = at;
+    let mut rest = c;
+    let mut i = 0;
+    while i < depths.len() {
+        let size = read_palette::entry_bytes(depths[i]);
+        k = item(d, k, i, between, box_number::opj_read_bytes(rest, 0, size));
+        let taken = reach(rest, size);
+        rest = &rest[taken..];
+        i += 1;
+    }
+    k
+}
+
+// n, or as many bytes as there are.
+fn reach(s: &[u8], n: usize) -> usize
+    ensures { λ r. ⌜ r ≡ least n (length (now (s .entry))) ⌝ }
+{
+    if n < s.len() {
+        return n;
+    }
+    s.len()
+}
+
+// Line n, from 0, of lines that each end in a byte, as in a newline; empty where it is not there.
+pub fn line(lines: &[u8], end: u8, n: usize) -> &[u8]
+    ensures { λ r. ⌜ now r ≡ line end n (now (lines .entry)) ⌝ }
+{
+    let start = line_start(lines, end, n);
+    first_line(box_number::part(lines, start, lines.len()), end)
+}
+
+fn line_start(lines: &[u8], end: u8, n: usize) -> usize
+    ensures { λ r. ⌜ line end 0 (drop r (now (lines .entry))) ≡ line end n (now (lines .entry)) ⌝ }
+{
+    let mut passed = 0;
+    let mut i = 0;
+    while i < lines.len() && passed < n {
+        passed = passed + is(lines[i], end);
+        i += 1;
+    }
+    i
+}
+
+fn first_line(lines: &[u8], end: u8) -> &[u8]
+    ensures { λ r. ⌜ now r ≡ line end 0 (now (lines .entry)) ⌝ }
+{
+    let mut i = 0;
+    while i < lines.len() {
+        if lines[i] == end {
+            return &lines[..i];
+        }
+        i += 1;
+    }
+    lines
+}
+
+// Texts that come from outside, so that none of their bytes does anything to a terminal or breaks a line of JSON.
+
+mod utf8;
+
+pub use utf8::character;
+
+// Characters of 2 or more bytes and printing ASCII come as they are, any other byte as \x1b for people and as \u001b in JSON.
+// A backslash, in JSON also a quotation mark, stands after a backslash.
+pub fn quote(d: &mut [u8], at: usize, json: bool, s: &[u8]) -> usize
+    ensures { λ r. ⌜ (r ≡ after (now (d .entry)) at (quoted json (now (s .entry)))) × (now (d .exit) ≡ put (now (d .entry)) at (quoted json (now (s .entry)))) ⌝ }
+{
+    let mut k = at;
+    let mut rest = s;
+    while 0 < rest.len() {
+        let n = together(rest);
+        k = front(d, k, json, n, rest);
+        rest = &rest[n..];
+    }
+    k
+}
+
+// How many bytes at the front go together.
+fn together(s: &[u8]) -> usize
+    ensures { λ r. ⌜ r ≡ together (now (s .entry)) ⌝ }
+{
+    let n = character(s);
+    if 1 < n {
+        return n;
+    }
+    1
+}
+
+fn front(d: &mut [u8], at: usize, json: bool, n: usize, s: &[u8]) -> usize
+    ensures { λ r. ⌜ (r ≡ after (now (d .entry)) at (front json n (now (s .entry)))) × (now (d .exit) ≡ put (now (d .entry)) at (front json n (now (s .entry)))) ⌝ }
+{
+    if 1 < n {
+        return text(d, at, box_number::part(s, 0, n));
+    }
+    shown(d, at, json, box_number::read_u8(s, 0))
+}
+
+fn shown(d: &mut [u8], at: usize, json: bool, b: u8) -> usize
+    ensures { λ r. ⌜ (r ≡ after (now (d .entry)) at (shown json b)) × (now (d .exit) ≡ put (now (d .entry)) at (shown json b)) ⌝ }
+{
+    if b < 0x20 {
+        return by_number(d, at, json, b);
+    }
+    if 0x7e < b {
+        return by_number(d, at, json, b);
+    }
+    if b == b'\\' {
+        return text(d, at, &[b'\\', b]);
+    }
+    if b != b'"' {
+        return byte(d, at, b);
+    }
+    if json {
+        return text(d, at, &[b'\\', b]);
+    }
+    byte(d, at, b)
+}
+
+fn by_number(d: &mut [u8], at: usize, json: bool, b: u8) -> usize
+    ensures { λ r. ⌜ (r ≡ after (now (d .entry)) at (escape json ++ (digit (b / 16) ∷ digit (b % 16) ∷ []))) × (now (d .exit) ≡ put (now (d .entry)) at (escape json ++ (digit (b / 16) ∷ digit (b % 16) ∷ []))) ⌝ }
+{
+    let k = escape(d, at, json);
+    text(d, k, &[digit(b / 16), digit(b % 16)])
+}
+
+fn escape(d: &mut [u8], at: usize, json: bool) -> usize
+    ensures { λ r. ⌜ (r ≡ after (now (d .entry)) at (escape json)) × (now (d .exit) ≡ put (now (d .entry)) at (escape json)) ⌝ }
+{
+    if json {
+        return text(d, at, b"\\u00");
+    }
+    text(d, at, b"\\x")
+}
+
+fn digit(n: u8) -> u8
+    requires { ⌜ n < 16 ⌝ }
+    ensures { λ r. ⌜ r ≡ digit n ⌝ }
+{
+    if n < 10 {
+        return 48 + n;
+    }
+    87 + n
+}

@@ -1,0 +1,124 @@
+// The readers over a lent record, for callers that have the record by value: each lends a local of its own, takes the record back and answers both.
+// Here the signature box and the file type box.
+ghost use mathlib.Core.Path.{_≡_};
+ghost use Rattle.read_record.specs.Answer.{answer};
+ghost use Rattle.read_signature.specs.Signature.{signature};
+ghost use Rattle.read_signature.specs.FileType.{fileType};
+ghost use Rattle.read_image.specs.Ihdr.{ihdr};
+ghost use Rattle.read_image.specs.Bpcc.{bpcc};
+ghost use Rattle.read_colour.specs.Colr.{colr};
+ghost use Rattle.read_palette.specs.Pclr.{pclr};
+ghost use Rattle.read_channels.specs.Cmap.{cmap};
+ghost use Rattle.read_channels.specs.Cdef.{cdef};
+ghost use Rattle.read_jp2h.specs.Jp2h.{jp2hAlone};
+ghost use Rattle.read_file.specs.File.{walk, reading};
+ghost use Rattle.picture_order.specs.Flat.{answered, afterwards};
+ghost use Rattle.picture_lent.specs.Comps.{numbered};
+use picture_lent::Comp;
+use read_file::Reading;
+use read_record::Answer;
+use read_record::Jp2;
+use read_record::Outcome;
+use read_record::Span;
+
+pub fn lend_jp(c: &[u8], place: u32, start: u32, j: Jp2) -> Outcome
+    ensures { λ r. ⌜ r ≡ answer j (signature place start (now (c .entry)) j) ⌝ }
+{
+    let mut k = j;
+    let a = read_lent::opj_jp2_read_jp(c, place, start, &mut k);
+    Outcome { answer: a, jp2: k }
+}
+
+pub fn lend_ftyp(c: &[u8], place: u32, start: u32, j: Jp2) -> Outcome
+    ensures { λ r. ⌜ r ≡ answer j (fileType place start (now (c .entry)) j) ⌝ }
+{
+    let mut k = j;
+    let a = read_lent::opj_jp2_read_ftyp(c, place, start, &mut k);
+    Outcome { answer: a, jp2: k }
+}
+
+// The boxes of jp2h, and jp2h itself, read over a lent record for callers that have the record by value, in the same way.
+
+pub fn lend_ihdr(c: &[u8], place: u32, start: u32, j: Jp2) -> Outcome
+    ensures { λ r. ⌜ r ≡ answer j (ihdr place start (now (c .entry)) j) ⌝ }
+{
+    let mut k = j;
+    let a = read_lent::opj_jp2_read_ihdr(c, place, start, &mut k);
+    Outcome { answer: a, jp2: k }
+}
+
+pub fn lend_bpcc(c: &[u8], place: u32, start: u32, j: Jp2) -> Outcome
+    ensures { λ r. ⌜ r ≡ answer j (bpcc place start (now (c .entry)) j) ⌝ }
+{
+    let mut k = j;
+    let a = read_lent::opj_jp2_read_bpcc(c, place, start, &mut k);
+    Outcome { answer: a, jp2: k }
+}
+
+pub fn lend_colr(c: &[u8], place: u32, start: u32, j: Jp2) -> Outcome
+    ensures { λ r. ⌜ r ≡ answer j (colr place start (now (c .entry)) j) ⌝ }
+{
+    let mut k = j;
+    let a = read_lent::opj_jp2_read_colr(c, place, start, &mut k);
+    Outcome { answer: a, jp2: k }
+}
+
+pub fn lend_pclr(c: &[u8], place: u32, start: u32, j: Jp2) -> Outcome
+    ensures { λ r. ⌜ r ≡ answer j (pclr place start (now (c .entry)) j) ⌝ }
+{
+    let mut k = j;
+    let a = read_lent::opj_jp2_read_pclr(c, place, start, &mut k);
+    Outcome { answer: a, jp2: k }
+}
+
+pub fn lend_cmap(c: &[u8], place: u32, start: u32, j: Jp2) -> Outcome
+    ensures { λ r. ⌜ r ≡ answer j (cmap place start (now (c .entry)) j) ⌝ }
+{
+    let mut k = j;
+    let a = read_lent::opj_jp2_read_cmap(c, place, start, &mut k);
+    Outcome { answer: a, jp2: k }
+}
+
+pub fn lend_cdef(c: &[u8], place: u32, start: u32, j: Jp2) -> Outcome
+    ensures { λ r. ⌜ r ≡ answer j (cdef place start (now (c .entry)) j) ⌝ }
+{
+    let mut k = j;
+    let a = read_lent::opj_jp2_read_cdef(c, place, start, &mut k);
+    Outcome { answer: a, jp2: k }
+}
+
+pub fn lend_jp2h(c: &[u8], place: u32, start: u32, j: Jp2) -> Outcome
+    ensures { λ r. ⌜ r ≡ answer j (jp2hAlone place start (now (c .entry)) j) ⌝ }
+{
+    let mut k = j;
+    let a = read_lent::opj_jp2_read_jp2h(c, place, start, &mut k);
+    Outcome { answer: a, jp2: k }
+}
+
+// A file read over a lent record for callers that have the record by value, in the same way.
+
+pub fn lend_header_procedure(s: &[u8], j: Jp2) -> Reading
+    ensures { λ r. ⌜ r ≡ reading j (walk (now (s .entry)) j) ⌝ }
+{
+    let mut k = j;
+    let a = read_lent::opj_jp2_read_header_procedure(s, &mut k);
+    Reading { answer: a, jp2: k }
+}
+
+// The reorder over a lent list of component records, for callers that have the records by value: it lends a local of its own, takes the records back and answers both.
+
+pub struct Four {
+    pub answer: Answer,
+    pub comps: [Comp; 4],
+}
+
+pub fn apply_four(f: &[u8], cdef: Span, cs: [Comp; 4], n: u32) -> Four
+    ensures { λ r. ⌜ (r .answer ≡ answered (now (f .entry)) cdef n (numbered cs)) × (numbered (r .comps) ≡ afterwards (now (f .entry)) cdef n (numbered cs)) ⌝ }
+{
+    let mut l = cs;
+    let a = picture_lent::opj_jp2_apply_cdef(f, cdef, &mut l, n);
+    Four {
+        answer: a,
+        comps: l,
+    }
+}

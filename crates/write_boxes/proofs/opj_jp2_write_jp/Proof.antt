@@ -1,0 +1,37 @@
+-- `write_boxes::opj_jp2_write_jp` meets its contract.
+-- Assumes nothing.
+use native.Mathlib.Omega.{arith}
+use mathlib.Core.List.{_++_, append-assoc}
+use lib.ListN.{length-append}
+use Rattle.write_rules.proofs.Splitting.{length-header}
+use Rattle.write_rules.specs.Box.{boxHeader, box}
+use Rattle.write_rules.specs.Signature.{signature}
+use Rattle.box_number.specs.Number.{bytes}
+use Rattle.box_number.proofs.Bytes.{length-bytes}
+use Rattle.box_number.proofs.Pieces.{first, whole}
+use Rattle.write_boxes.proofs.Pieces.{field}
+use borrow.Author.Needs.{needs}
+use Rattle.write_boxes.proofs.opj_jp2_write_jp.Statement.{statement}
+use Rattle.write_boxes.proofs.opj_jp2_write_jp.Tie as tie
+
+put-header-requires : tie.Need-put-header-requires
+put-header-requires c κs = search needs
+
+put-requires : tie.Need-put-requires
+put-requires c κs = search needs
+
+same-length : tie.Need-same-length
+same-length c = search needs
+
+returns : tie.Need-returns
+unfolding box
+returns c =
+    let b = c .before .before .before .before .before .before .before .before .before in
+    let d = b .args .d .now in
+    let at = b .args .at in
+    let p0 = first d at (boxHeader 0x6a502020 4) 8 (length-header 0x6a502020 4) (c .before .before .before .before .before .before .put-header .ensures) in
+    let p1 = field d at (boxHeader 0x6a502020 4) 8 p0 4 0x0d0a870a (omega arith) (c .before .before .put .ensures) in
+    whole d at (boxHeader 0x6a502020 4 ++ bytes 4 0x0d0a870a) (signature) 12 p1 (simp (length-append, length-bytes, append-assoc))
+
+pub opj-jp2-write-jp-spec : {M : Type 1} → statement M
+opj-jp2-write-jp-spec = tie.close (tie.spec put-header-requires put-requires same-length returns)

@@ -1,0 +1,77 @@
+-- A box that was written is the first box of the bytes at whose front it stands.
+-- Assumes nothing.
+use Prim.Native.Nat.{ℕ, suc, _+_, _-_, _≤_, _<_}
+use mathlib.Core.Path.{_≡_, refl, sym, _∙_}
+use mathlib.Core.List.{List, _++_, append-assoc}
+use native.Mathlib.Omega.{arith}
+use lib.ListN.{length, drop, length-append}
+use lib.Seq.{drop-at, take-append-seam}
+use Rattle.box_number.specs.Number.{part, bytes}
+use Rattle.box_number.proofs.Bytes.{length-bytes}
+use Rattle.box_number.proofs.Rows.{row}
+use Rattle.box_header.specs.Box.{LBox, TBox, headerLength, boxLength}
+use Rattle.box_header.proofs.Headers.{header-8, box-plain}
+use Rattle.read_jp2h.specs.Split.{Box, _▸_, split}
+use Rattle.write_rules.specs.Box.{boxHeader, box}
+use Rattle.write_rules.proofs.Fields.{number-here, number-next}
+
+-- a box by its type, its place and its content
+abbrev pub boxAt : ℕ → ℕ → List ℕ → Box
+boxAt type at content = record { type = type; place = at; start = at + 8; content = content }
+
+pub length-header : (type n : ℕ) → length (boxHeader type n) ≡ 8
+unfolding boxHeader
+length-header type n = simp (length-append, length-bytes)
+
+pub length-box : (type : ℕ) (content : List ℕ) → length (box type content) ≡ 8 + length content
+unfolding box
+length-box type content = simp (length-append, length-header)
+
+-- what a written header says
+module _ (type n : ℕ) (rest : List ℕ) (small : 8 + n ≤ 4294967295) (known : type < 4294967296) where
+  abbrev c : List ℕ
+  c = boxHeader type n ++ rest
+
+  pub lbox : LBox (boxHeader type n ++ rest) ≡ 8 + n
+  unfolding boxHeader
+  lbox = rw append-assoc (number-here 4 (8 + n) (bytes 4 type ++ rest) (omega arith) (omega arith))
+
+  pub tbox : TBox (boxHeader type n ++ rest) ≡ type
+  unfolding boxHeader
+  tbox = rw append-assoc (number-next 4 (8 + n) (bytes 4 type ++ rest) 0 4 ∙ number-here 4 type rest (omega arith) (omega arith))
+
+  pub header-is : headerLength (boxHeader type n ++ rest) ≡ 8
+  header-is = header-8 c (λ e. omega (arith, lbox))
+
+  pub long : boxLength (boxHeader type n ++ rest) ≡ 8 + n
+  long = box-plain c (λ e. omega (arith, lbox)) (λ e. omega (arith, lbox)) ∙ lbox
+
+  pub after : drop 8 (boxHeader type n ++ rest) ≡ rest
+  after = drop-at (boxHeader type n) rest 8 (length-header type n)
+
+-- a whole box
+module _ (type : ℕ) (content rest : List ℕ) (small : 8 + length content ≤ 4294967295) (known : type < 4294967296) where
+  front-is : box type content ++ rest ≡ boxHeader type (length content) ++ (content ++ rest)
+  unfolding box
+  front-is = simp append-assoc
+
+  content-is : part (box type content ++ rest) 8 (8 + length content) ≡ content
+  unfolding part
+  content-is =
+      let e : 8 + length content - 8 ≡ length content = omega arith in
+      rw (front-is, after type (length content) (content ++ rest) small known, e) (take-append-seam content rest)
+
+  rest-is : drop (8 + length content) (box type content ++ rest) ≡ rest
+  rest-is = drop-at (box type content) rest (8 + length content) (length-box type content)
+
+  pub split-box : (n at : ℕ) → split (suc n) at (box type content ++ rest) ≡ boxAt type at content ▸ split n (at + (8 + length content)) rest
+  unfolding split
+  split-box n at =
+      let m = length content in
+      let x = content ++ rest in
+      let l : LBox (box type content ++ rest) ≡ 8 + m = rw front-is (lbox type m x small known) in
+      let t : TBox (box type content ++ rest) ≡ type = rw front-is (tbox type m x small known) in
+      let h : headerLength (box type content ++ rest) ≡ 8 = rw front-is (header-is type m x small known) in
+      let b : boxLength (box type content ++ rest) ≡ 8 + m = rw front-is (long type m x small known) in
+      let s : length (box type content ++ rest) ≡ 8 + m + length rest = simp (length-append, length-box) in
+      rw (l, t, h, b, s, content-is, rest-is) (sym (row 6 _ (omega arith) refl))
