@@ -27,9 +27,13 @@ bytes (suc n) v = bytes n (v / 256) ++ (v % 256 ∷ [])
 unfoldable pub placed : {A : Type 0} → List A → ℕ → List A → List A
 placed d at xs = take at d ++ xs ++ drop (at + length xs) d
 
+-- n elements from a place on do not lie in a list of the given length
+abbrev pub liesOutside : ℕ → ℕ → ℕ → Test
+liesOutside len place n = len <? place + n
+
 -- a number has at most 4 bytes, and they have to lie in d; of 0 bytes nothing is written, which always has room inside d
 abbrev pub noRoom : List ℕ → ℕ → ℕ → Test
-noRoom d at n = 4 <? n or length d <? at + n
+noRoom d at n = 4 <? n or liesOutside (length d) at n
 
 unfoldable pub fits : List ℕ → ℕ → ℕ → Bool
 fits d at n = table (noRoom d at n ⇒ false ∣ otherwise true)

@@ -2,7 +2,8 @@
 // has no room is not written.
 ghost use Prim.Native.Nat.{_+_};
 ghost use mathlib.Core.Path.{_≡_};
-ghost use Rattle.box_number.specs.Number.{number, part, least, fits, written};
+ghost use Rattle.box_number.specs.Table.{holds};
+ghost use Rattle.box_number.specs.Number.{number, part, least, fits, written, liesOutside};
 
 // The bytes of s from start up to end; those past the end of s are not there.
 pub fn part(s: &[u8], start: usize, end: usize) -> &[u8]
@@ -18,6 +19,19 @@ pub fn part(s: &[u8], start: usize, end: usize) -> &[u8]
         return &s[start..];
     }
     &s[start..end]
+}
+
+// Whether n elements from a place on do not lie in a list of the given length. Place plus n is not computed, since the sum may be too large for its type.
+pub fn lies_outside(len: usize, place: usize, n: usize) -> bool
+    ensures { λ r. ⌜ r ≡ holds (liesOutside len place n) ⌝ }
+{
+    if len < n {
+        return true;
+    }
+    if len - n < place {
+        return true;
+    }
+    false
 }
 
 pub fn read_u8(s: &[u8], at: usize) -> u8

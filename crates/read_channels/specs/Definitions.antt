@@ -1,6 +1,9 @@
 -- I.5.3.6: the definitions of a list that is kept in the file.
-use Prim.Native.Nat.{ℕ, zero, suc}
+use Prim.Native.Nat.{ℕ, zero, suc, _*_}
 use mathlib.Core.List.{List, [], _∷_, _++_}
+use lib.ListN.{length}
+use Rattle.box_number.specs.Table.{Test, _≠?_, _<?_, _or_, _and_}
+use Rattle.box_number.specs.Number.{liesOutside}
 use Rattle.read_record.specs.declared.Span.{Span}
 use Rattle.read_channels.specs.Cdef.{Cn, Typ, Asoc}
 
@@ -24,3 +27,7 @@ definitionsTo f l (suc n) = definitionsTo f l n ++ (definition f l n ∷ [])
 
 abbrev pub definitions : List ℕ → Span → List Def
 definitions f l = definitionsTo f l (l .count)
+
+-- 29: a definition list that the reader of cdef never gives, or that does not lie in the file; one of no definitions is none, wherever its place is
+abbrev pub definitionsOutside : List ℕ → Span → Test
+definitionsOutside f l = l .count ≠? 0 and (65535 <? l .count or liesOutside (length f) (l .place) (6 * l .count))

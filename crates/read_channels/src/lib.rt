@@ -1,12 +1,19 @@
 // The component mapping box (I.5.3.5) and the channel definition box (I.5.3.6): which channels a picture has, and what they are.
 // Every reader of a box has this signature: the box's content, the place where the box starts, where its content starts, and the record before it.
 ghost use mathlib.Core.Path.{_≡_};
+ghost use Rattle.box_number.specs.Table.{holds};
 ghost use Rattle.read_record.specs.Answer.{answer};
 ghost use Rattle.read_channels.specs.Cmap.{cmap};
 ghost use Rattle.read_channels.specs.Cdef.{cdef};
+ghost use Rattle.read_channels.specs.Definitions.{definitionsOutside};
 use read_record::Jp2;
 use read_record::Outcome;
 use read_record::Span;
+
+// Cn, Typ and Asoc of a definition take two bytes each, and so does the number of definitions.
+const DEFINITION_BYTES: usize = 6;
+
+const MOST_DEFINITIONS: usize = 65535;
 
 pub fn opj_jp2_read_cmap(c: &[u8], place: u32, start: u32, j: Jp2) -> Outcome
     ensures { λ r. ⌜ r ≡ answer j (cmap place start (now (c .entry)) j) ⌝ }
@@ -57,4 +64,19 @@ pub fn opj_jp2_read_cdef(c: &[u8], place: u32, start: u32, j: Jp2) -> Outcome
     let mut k = j;
     k.lists = lists;
     Outcome::done(k)
+}
+
+// Whether a definition list is one that the reader of cdef never gives, or does not lie in the file f (number 29). A list of no definitions is none, wherever its place is.
+pub fn definitions_outside(f: &[u8], l: Span) -> bool
+    ensures { λ r. ⌜ r ≡ holds (definitionsOutside (now (f .entry)) l) ⌝ }
+{
+    let place = l.place;
+    let count = l.count;
+    if count == 0 {
+        return false;
+    }
+    if MOST_DEFINITIONS < count {
+        return true;
+    }
+    box_number::lies_outside(f.len(), place, DEFINITION_BYTES * count)
 }
