@@ -10,10 +10,11 @@ use read_record::Span;
 pub fn size(comps: &[u32], c: u32) -> u64
     ensures { λ r. ⌜ r ≡ size (listed (now (comps .entry))) c ⌝ }
 {
-    if read_record::component(comps, c, 11) == 4294967295 {
+    if read_record::component(comps, c, read_record::DATA) == read_record::NO_DATA {
         return 0;
     }
-    read_record::component(comps, c, 3) as u64 * read_record::component(comps, c, 2) as u64
+    read_record::component(comps, c, read_record::H) as u64
+        * read_record::component(comps, c, read_record::W) as u64
 }
 
 // The component of channel c, by the mappings l in the file f.

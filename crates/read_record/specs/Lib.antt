@@ -1,3 +1,4 @@
 pub mod Record
 pub mod Answer
 pub mod State
+pub mod Component

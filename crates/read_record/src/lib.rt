@@ -2,6 +2,7 @@
 ghost use mathlib.Core.Path.{_≡_};
 ghost use Prim.Native.Nat.{_+_, _*_};
 ghost use lib.ListN.{getD};
+ghost use Rattle.read_record.specs.Component.{numbersEach};
 ghost use Rattle.read_record.specs.Record.{blank};
 ghost use Rattle.read_record.specs.Answer.{accepted, refused, answer};
 
@@ -167,10 +168,42 @@ pub fn opj_jp2_create() -> Jp2
     }
 }
 
+// The numbers of a component (`opj_image_comp` of image.rs), in the order of its fields.
+pub const DX: u32 = 0;
+
+pub const DY: u32 = 1;
+
+pub const W: u32 = 2;
+
+pub const H: u32 = 3;
+
+pub const X0: u32 = 4;
+
+pub const Y0: u32 = 5;
+
+pub const PREC: u32 = 6;
+
+pub const BPP: u32 = 7;
+
+pub const SGND: u32 = 8;
+
+pub const RESNO_DECODED: u32 = 9;
+
+pub const FACTOR: u32 = 10;
+
+pub const DATA: u32 = 11;
+
+pub const ALPHA: u32 = 12;
+
+// How many numbers a component has, and what stands for the index of its first sample where it has no samples.
+pub const COMPONENT_NUMBERS: usize = 13;
+
+pub const NO_DATA: u32 = 4294967295;
+
 // Number k of component c in a list of thirteen numbers each (`opj_image_comp` of image.rs); 0 past the end of the list.
 pub fn component(comps: &[u32], c: u32, k: u32) -> u32
-    ensures { λ r. ⌜ r ≡ getD (now (comps .entry)) (13 * c + k) 0 ⌝ }
+    ensures { λ r. ⌜ r ≡ getD (now (comps .entry)) (numbersEach * c + k) 0 ⌝ }
 {
-    let at = 13 * c as usize + k as usize;
+    let at = COMPONENT_NUMBERS * c as usize + k as usize;
     if at < comps.len() { comps[at] } else { 0 }
 }
