@@ -23,13 +23,30 @@ APPROX c = number c 2 1
 abbrev pub EnumCS : List ℕ → ℕ
 EnumCS c = number c 3 4
 
--- CIELab (EnumCS 14): its parameters RL, OL, RA, OA, RB, OB, IL, or the defaults
+-- METH: an enumerated colour space, an ICC profile
+abbrev pub enumerated : ℕ
+enumerated = 1
+
+abbrev pub profiled : ℕ
+profiled = 2
+
+-- EnumCS of CIELab, its standard illuminant D50, and the crate's sign that ranges and offsets are the defaults
+abbrev pub cielab : ℕ
+cielab = 14
+
+abbrev pub D50 : ℕ
+D50 = 0x443530
+
+abbrev pub defaults : ℕ
+defaults = 0x44454600
+
+-- CIELab: its parameters RL, OL, RA, OA, RB, OB, IL, or the defaults
 unfoldable pub lab : List ℕ → Lab
 lab c =
     table
-    (length c =? 7 ⇒ record { numbers = 14 ∷ 0 ∷ 0 ∷ 0 ∷ 0 ∷ 0 ∷ 0 ∷ 0x443530 ∷ 0 ∷ []; count = 8 }
-    ∣ length c =? 35 ⇒ record { numbers = 14 ∷ 0 ∷ number c 7 4 ∷ number c 11 4 ∷ number c 15 4 ∷ number c 19 4 ∷ number c 23 4 ∷ number c 27 4 ∷ number c 31 4 ∷ []; count = 9 }
-    ∣ otherwise (record { numbers = 14 ∷ 0x44454600 ∷ 0 ∷ 0 ∷ 0 ∷ 0 ∷ 0 ∷ 0 ∷ 0x443530 ∷ []; count = 9 }))
+    (length c =? 7 ⇒ record { numbers = cielab ∷ 0 ∷ 0 ∷ 0 ∷ 0 ∷ 0 ∷ 0 ∷ D50 ∷ 0 ∷ []; count = 8 }
+    ∣ length c =? 35 ⇒ record { numbers = cielab ∷ 0 ∷ number c 7 4 ∷ number c 11 4 ∷ number c 15 4 ∷ number c 19 4 ∷ number c 23 4 ∷ number c 27 4 ∷ number c 31 4 ∷ []; count = 9 }
+    ∣ otherwise (record { numbers = cielab ∷ defaults ∷ 0 ∷ 0 ∷ 0 ∷ 0 ∷ 0 ∷ 0 ∷ D50 ∷ []; count = 9 }))
 
 -- the three fields, and what METH makes of the rest
 abbrev pub specified : List ℕ → ℕ → Lab → ℕ → Colour
@@ -42,8 +59,8 @@ colr place start c j =
     table
     (length c <? 3 ⇒ refused 16 place
     ∣ k .held ≠? 0 ⇒ accepted j
-    ∣ METH c =? 1 and length c <? 7 ⇒ refused 16 place
-    ∣ METH c =? 1 and EnumCS c =? 14 ⇒ accepted (withColour (specified c 14 (lab c) 1) j)
-    ∣ METH c =? 1 ⇒ accepted (withColour (specified c (EnumCS c) (k .lab) 1) j)
-    ∣ METH c =? 2 ⇒ accepted (withIcc (span (start + 3) (length c - 3)) (withColour (specified c (k .enumcs) (k .lab) 1) j))
+    ∣ METH c =? enumerated and length c <? 7 ⇒ refused 16 place
+    ∣ METH c =? enumerated and EnumCS c =? cielab ⇒ accepted (withColour (specified c cielab (lab c) 1) j)
+    ∣ METH c =? enumerated ⇒ accepted (withColour (specified c (EnumCS c) (k .lab) 1) j)
+    ∣ METH c =? profiled ⇒ accepted (withIcc (span (start + 3) (length c - 3)) (withColour (specified c (k .enumcs) (k .lab) 1) j))
     ∣ otherwise (accepted (withColour (specified c (k .enumcs) (k .lab) (k .held)) j)))

@@ -7,6 +7,7 @@ use Rattle.box_number.specs.Number.{number}
 use Rattle.box_number.specs.Table.{_=?_, _≠?_, _<?_, _or_, otherwise, _⇒_∣_, table}
 use Rattle.read_record.specs.declared.Image.{Image}
 use Rattle.read_record.specs.declared.Jp2.{Jp2}
+use Rattle.read_record.specs.Component.{mostComponents}
 use Rattle.read_record.specs.Record.{withImage, withHasIhdr}
 use Rattle.read_record.specs.Answer.{Result, accepted, refused}
 
@@ -41,5 +42,5 @@ ihdr place start c j =
     (j .image .numcomps ≠? 0 ⇒ accepted j
     ∣ length c ≠? 14 ⇒ refused 13 place
     ∣ HEIGHT c =? 0 or WIDTH c =? 0 or NC c =? 0 ⇒ refused 14 place
-    ∣ 16384 <? NC c ⇒ refused 15 place
+    ∣ mostComponents <? NC c ⇒ refused 15 place
     ∣ otherwise (accepted (withHasIhdr (withImage (image c) j))))

@@ -9,13 +9,19 @@ use read_record::Jp2;
 use read_record::Outcome;
 use read_record::Span;
 
+// The content of an image header box.
+const IHDR_BYTES: usize = 14;
+
+// The most components that a codestream can have.
+const MOST_COMPONENTS: u32 = 16384;
+
 pub fn opj_jp2_read_ihdr(c: &[u8], place: u32, start: u32, j: Jp2) -> Outcome
     ensures { λ r. ⌜ r ≡ answer j (ihdr place start (now (c .entry)) j) ⌝ }
 {
     if j.image.numcomps != 0 {
         return Outcome::done(j);
     }
-    if c.len() != 14 {
+    if c.len() != IHDR_BYTES {
         return Outcome::refused(13, place, j);
     }
     let h = box_number::read_u32(c, 0);
@@ -30,7 +36,7 @@ pub fn opj_jp2_read_ihdr(c: &[u8], place: u32, start: u32, j: Jp2) -> Outcome
     if numcomps == 0 {
         return Outcome::refused(14, place, j);
     }
-    if 16384 < numcomps {
+    if MOST_COMPONENTS < numcomps {
         return Outcome::refused(15, place, j);
     }
     let image = Image {

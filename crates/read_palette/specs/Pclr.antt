@@ -16,6 +16,10 @@ NE c = number c 0 2
 abbrev pub NPC : List ℕ → ℕ
 NPC c = number c 2 1
 
+-- the most entries that a palette may have
+abbrev pub mostEntries : ℕ
+mostEntries = 1024
+
 -- what a Bi says: the low 7 bits and 1 are the depth in bits, the top bit is the sign
 abbrev pub depth : ℕ → ℕ
 depth b = b % 128 + 1
@@ -48,6 +52,6 @@ pclr place start c j =
     table
     (j .lists .pclr .columns ≠? 0 ⇒ refused 18 place
     ∣ length c <? 3 ⇒ refused 20 place
-    ∣ NE c =? 0 or 1024 <? NE c or NPC c =? 0 ⇒ refused 19 place
+    ∣ NE c =? 0 or mostEntries <? NE c or NPC c =? 0 ⇒ refused 19 place
     ∣ length c <? 3 + NPC c + NE c * rowBytes c 3 (NPC c) ⇒ refused 20 place
     ∣ otherwise (accepted (withPclr (palette (start + 3) (NE c) (NPC c)) j)))

@@ -7,12 +7,24 @@ use read_record::Jp2;
 use read_record::Outcome;
 use read_record::Palette;
 
+// NE and NPC, before the depths of the columns.
+const COUNTS_BYTES: usize = 3;
+
+const MOST_ENTRIES: u16 = 1024;
+
+// The most bytes of an entry.
+const MOST_ENTRY_BYTES: usize = 4;
+
 // The bytes of an entry in a column whose depth and sign are b.
 pub fn entry_bytes(b: u8) -> usize
     ensures { λ r. ⌜ r ≡ entryBytes b ⌝ }
 {
     let filled = (b as usize % 128 + 8) / 8;
-    if filled < 4 { filled } else { 4 }
+    if filled < MOST_ENTRY_BYTES {
+        filled
+    } else {
+        MOST_ENTRY_BYTES
+    }
 }
 
 // The bytes that the first n columns of a row take; the columns' depths start at a place of s.
@@ -37,7 +49,7 @@ pub fn opj_jp2_read_pclr(c: &[u8], place: u32, start: u32, j: Jp2) -> Outcome
     if lists.pclr.columns != 0 {
         return Outcome::refused(18, place, j);
     }
-    if c.len() < 3 {
+    if c.len() < COUNTS_BYTES {
         return Outcome::refused(20, place, j);
     }
     let entries = box_number::read_u16(c, 0);
@@ -45,18 +57,18 @@ pub fn opj_jp2_read_pclr(c: &[u8], place: u32, start: u32, j: Jp2) -> Outcome
     if entries == 0 {
         return Outcome::refused(19, place, j);
     }
-    if 1024 < entries {
+    if MOST_ENTRIES < entries {
         return Outcome::refused(19, place, j);
     }
     if columns == 0 {
         return Outcome::refused(19, place, j);
     }
     let row = row_bytes(c, 3, columns);
-    if c.len() < 3 + columns as usize + entries as usize * row {
+    if c.len() < COUNTS_BYTES + columns as usize + entries as usize * row {
         return Outcome::refused(20, place, j);
     }
     let pclr = Palette {
-        place: start as usize + 3,
+        place: start as usize + COUNTS_BYTES,
         entries: entries as u32,
         columns: columns as u32,
     };

@@ -42,6 +42,10 @@ abbrev pub «data» : ℕ
 abbrev pub alpha : ℕ
 alpha = 12
 
+-- the most components that a picture can have
+abbrev pub mostComponents : ℕ
+mostComponents = 16384
+
 -- how many numbers a component has
 abbrev pub numbersEach : ℕ
 numbersEach = 13

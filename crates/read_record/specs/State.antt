@@ -17,11 +17,18 @@ fileTypeBit j = bit 2 (j .status .state)
 abbrev pub headerBit : Jp2 → ℕ
 headerBit j = bit 4 (j .status .state)
 
+-- the state once the signature is read, and once the file type is read too
+abbrev pub signatureRead : ℕ
+signatureRead = 1
+
+abbrev pub fileTypeRead : ℕ
+fileTypeRead = 3
+
 -- a state with the bit of weight w
 unfoldable pub withBit : ℕ → ℕ → ℕ
 withBit w state = table (bit w state =? 0 ⇒ state + w ∣ otherwise state)
 
--- JP2_STATE_UNKNOWN and JP2_IMG_STATE_UNKNOWN: all 31 low bits
+-- JP2_STATE_UNKNOWN and JP2_IMG_STATE_UNKNOWN: all 31 low bits are set, and bit 31 stays
 abbrev pub unknown : ℕ → ℕ
 unknown state = state / 2147483648 * 2147483648 + 2147483647
 

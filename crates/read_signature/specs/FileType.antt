@@ -7,6 +7,7 @@ use Rattle.box_number.specs.Table.{_≠?_, _<?_, _or_, otherwise, _⇒_∣_, ta
 use Rattle.read_record.specs.declared.Span.{Span}
 use Rattle.read_record.specs.declared.Jp2.{Jp2}
 use Rattle.read_record.specs.Record.{span, withFileType, withCl, withState}
+use Rattle.read_record.specs.State.{signatureRead, fileTypeRead}
 use Rattle.read_record.specs.Answer.{Result, accepted, refused}
 
 abbrev pub BR : List ℕ → ℕ
@@ -23,5 +24,5 @@ CL f l i = number f (l .place + 4 * i) 4
 unfoldable pub fileType : ℕ → ℕ → List ℕ → Jp2 → Result
 fileType place start c j =
     table
-    (j .status .state ≠? 1 or length c <? 8 or length c % 4 ≠? 0 ⇒ refused 8 place
-    ∣ otherwise (accepted (withState 3 (withCl (span (start + 8) ((length c - 8) / 4)) (withFileType (record { brand = BR c; minversion = MinV c }) j)))))
+    (j .status .state ≠? signatureRead or length c <? 8 or length c % 4 ≠? 0 ⇒ refused 8 place
+    ∣ otherwise (accepted (withState fileTypeRead (withCl (span (start + 8) ((length c - 8) / 4)) (withFileType (record { brand = BR c; minversion = MinV c }) j)))))
