@@ -1,4 +1,4 @@
 pub mod Pieces
 pub mod Lengths
-pub mod Readies
+pub mod Answers
 pub mod Requests

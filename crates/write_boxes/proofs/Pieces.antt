@@ -1,12 +1,17 @@
--- Boxes that are put one after the other to a place of a list: a field of a number, a header, what it announces.
+-- Pieces that are put one after the other to a place of a list: a number, a header and its content.
 -- Assumes nothing.
 use Prim.Native.Nat.{ℕ, _+_, _≤_}
-use mathlib.Core.Path.{_≡_, ap}
+use native.Mathlib.Omega.{arith}
+use mathlib.Core.Path.{_≡_, refl, sym, ap}
 use mathlib.Core.List.{List, _++_, append-assoc}
 use lib.ListN.{length}
-use Rattle.box_number.specs.Number.{bytes}
+use Rattle.box_number.specs.Number.{bytes, placed}
+use Rattle.box_number.proofs.Rows.{row}
+use Rattle.box_header.specs.declared.Jp2BoxHeader.{Jp2BoxHeader}
+use Rattle.box_header.specs.Box.{newHeader, withHeader}
 use Rattle.box_number.proofs.Bytes.{length-bytes}
 use Rattle.box_number.proofs.Pieces.{Put, Puts, piece}
+use Rattle.box_kind.specs.declared.Jp2BoxType.{Jp2BoxType}
 use Rattle.write_rules.specs.Box.{boxHeader, box}
 
 -- one more piece, a number
@@ -14,9 +19,14 @@ pub field : (d : List ℕ) (at : ℕ) (xs : List ℕ) (m : ℕ) {e : List ℕ} {
 field d at xs m q n v h p = piece d at xs m q (bytes n v) n (length-bytes n v) h p
 
 -- a header and the content that it announces
-pub box-is : (type : ℕ) {n : ℕ} (content : List ℕ) → n ≡ length content → boxHeader type n ++ content ≡ box type content
+pub box-is : (kind : Jp2BoxType) {n : ℕ} (content : List ℕ) → n ≡ length content → boxHeader kind n ++ content ≡ box kind content
 unfolding box
-box-is type content e = ap (λ k. boxHeader type k ++ content) e
+box-is kind content e = ap (λ n. boxHeader kind n ++ content) e
+
+-- a header without content, made longer and written where it has room
+pub header-placed : (d : List ℕ) (at : ℕ) (kind : Jp2BoxType) (n : ℕ) {h : Jp2BoxHeader} → h ≡ newHeader kind → at + 8 ≤ length d → withHeader d at (record { length = h .length + n; ty = h .ty; «header_length» = h .«header_length» }) ≡ placed d at (boxHeader kind n)
+unfolding withHeader boxHeader
+header-placed d at kind n e room = rw e (sym (row 1 _ (omega arith) refl))
 
 -- a header before four pieces of content
 pub regrouped : (h a b c d : List ℕ) → h ++ a ++ b ++ c ++ d ≡ h ++ (a ++ b ++ c ++ d)

@@ -7,18 +7,40 @@ ghost use lib.ListN.{length};
 ghost use Rattle.box_number.specs.Number.{bytes, placed};
 ghost use Rattle.box_number.specs.Table.{_≠?_, _and_, holds};
 ghost use Rattle.box_number.proofs.Rows.{Says};
-ghost use Rattle.write_rules.specs.Setup.{BPCi};
+ghost use Rattle.write_rules.specs.Request.{asked};
+ghost use Rattle.write_rules.specs.Setup.{BPCi, definition, mostComponents, ill};
 ghost use Rattle.write_rules.specs.Box.{boxHeader};
 ghost use Rattle.write_rules.specs.Signature.{signature};
 ghost use Rattle.write_rules.specs.FileType.{fileType};
-ghost use Rattle.write_rules.specs.Writing.{ill, write, destination};
-ghost use Rattle.write_setup.specs.Parts.{listed};
-ghost use Rattle.write_rules.specs.Request.{asked};
+ghost use Rattle.write_rules.specs.Ihdr.{ihdr};
+ghost use Rattle.write_rules.specs.Bpcc.{bpccContent, bpcc};
+ghost use Rattle.write_rules.specs.Colr.{specification, colr};
+ghost use Rattle.write_rules.specs.Cdef.{definitionBytes, definitions, cdef};
+ghost use Rattle.write_rules.specs.Jp2h.{jp2h};
+ghost use Rattle.write_rules.specs.Writing.{front, mostProfile, mostCodestream, writeFields, write, destination};
 ghost use Rattle.write_boxes.specs.Answers.{answered};
-ghost use Rattle.write_boxes.specs.Parts.{ihdrOf, depthsOf, bpccOf, specificationOf, colrOf, definitionOf, definitionsOf, cdefOf, jp2hOf, frontOf, bpccLength, colrLength, cdefLength, jp2hLength, frontLength, Sound, ready};
-ghost use Rattle.write_rules.specs.Cdef as cdef;
-use write_setup::Encoder;
-use write_setup::Fields;
+ghost use Rattle.write_boxes.specs.Private.Lengths.{bpccLength, colrLength, cdefLength, jp2hLength, frontLength};
+ghost use Rattle.write_boxes.specs.Private.Sound.{Sound};
+use box_header::Jp2BoxHeader;
+use box_kind::Jp2BoxType;
+use write_rules::Encoder;
+use write_rules::Fields;
+
+// The content of the signature box, and the brand 'jp2 '.
+const MAGIC: u32 = 0x0d0a_870a;
+
+const BRAND: u32 = 0x6a70_3220;
+
+// The value of bpc where a bpcc follows.
+const VARIES: u32 = 255;
+
+// Type and association of a channel of which nothing is said.
+const UNSPECIFIED: u32 = 65535;
+
+// The longest profile and the longest codestream.
+const MOST_PROFILE: usize = 16777215;
+
+const MOST_CODESTREAM: u64 = 4261412863;
 
 // How many bytes were written, which is where the codestream goes; or document 01's number, with the index or the needed length.
 pub enum Written {
@@ -35,13 +57,15 @@ fn put(d: &mut [u8], at: usize, nb: usize, value: u32) -> usize
     at + nb
 }
 
-// The header of a box whose content has so many bytes: the place after it.
-fn put_header(d: &mut [u8], at: usize, ty: u32, content: u32) -> usize
+// The header of a box whose content has the given length: the place after it.
+fn put_header(d: &mut [u8], at: usize, kind: Jp2BoxType, content: u32) -> usize
     requires { ⌜ (content ≤ 4294967287) × (at + 8 ≤ length (now d)) ⌝ }
-    ensures { λ r. ⌜ (r ≡ at + 8) × (now (d .exit) ≡ placed (now (d .entry)) at (boxHeader ty content)) ⌝ }
+    ensures { λ r. ⌜ (r ≡ at + 8) × (now (d .exit) ≡ placed (now (d .entry)) at (boxHeader kind content)) ⌝ }
 {
-    let a = put(d, at, 4, 8 + content);
-    put(d, a, 4, ty)
+    let mut header = Jp2BoxHeader::new(kind);
+    header.length += content;
+    header.write(d, at);
+    at + 8
 }
 
 // Puts bytes to a place that has room for them: the place after them.
@@ -62,25 +86,25 @@ fn opj_jp2_write_jp(d: &mut [u8], at: usize) -> usize
     requires { ⌜ at + 12 ≤ length (now d) ⌝ }
     ensures { λ r. ⌜ (r ≡ at + 12) × (now (d .exit) ≡ placed (now (d .entry)) at signature) ⌝ }
 {
-    let a = put_header(d, at, 0x6a50_2020, 4);
-    put(d, a, 4, 0x0d0a_870a)
+    let a = put_header(d, at, Jp2BoxType::JP, 4);
+    put(d, a, 4, MAGIC)
 }
 
 fn opj_jp2_write_ftyp(d: &mut [u8], at: usize) -> usize
     requires { ⌜ at + 20 ≤ length (now d) ⌝ }
     ensures { λ r. ⌜ (r ≡ at + 20) × (now (d .exit) ≡ placed (now (d .entry)) at fileType) ⌝ }
 {
-    let a = put_header(d, at, 0x6674_7970, 12);
-    let b = put(d, a, 4, 0x6a70_3220);
+    let a = put_header(d, at, Jp2BoxType::FTYP, 12);
+    let b = put(d, a, 4, BRAND);
     let c = put(d, b, 4, 0);
-    put(d, c, 4, 0x6a70_3220)
+    put(d, c, 4, BRAND)
 }
 
 fn opj_jp2_write_ihdr(d: &mut [u8], at: usize, s: Fields) -> usize
     requires { ⌜ at + 22 ≤ length (now d) ⌝ }
-    ensures { λ r. ⌜ (r ≡ at + 22) × (now (d .exit) ≡ placed (now (d .entry)) at (ihdrOf s)) ⌝ }
+    ensures { λ r. ⌜ (r ≡ at + 22) × (now (d .exit) ≡ placed (now (d .entry)) at (ihdr s)) ⌝ }
 {
-    let a0 = put_header(d, at, 0x6968_6472, 14);
+    let a0 = put_header(d, at, Jp2BoxType::IHDR, 14);
     let a1 = put(d, a0, 4, s.h);
     let a2 = put(d, a1, 4, s.w);
     let a3 = put(d, a2, 2, s.numcomps);
@@ -92,16 +116,16 @@ fn opj_jp2_write_ihdr(d: &mut [u8], at: usize, s: Fields) -> usize
 
 // Bits less 1 of component c, and its sign as the top bit.
 fn component_bits(comps: &[u32], c: u32) -> u32
-    requires { ⌜ Says false (ill (listed (now comps)) c) ⌝ }
-    ensures { λ r. ⌜ r ≡ BPCi (listed (now (comps .entry))) c ⌝ }
+    requires { ⌜ Says false (ill (now comps) c) ⌝ }
+    ensures { λ r. ⌜ r ≡ BPCi (now (comps .entry)) c ⌝ }
 {
     read_record::component(comps, c, 6) - 1 + 128 * read_record::component(comps, c, 8)
 }
 
 // A byte for each of the n components.
 fn put_depths(d: &mut [u8], at: usize, comps: &[u32], n: u32) -> usize
-    requires { ⌜ (at + n ≤ length (now d)) × ((c : ℕ) → c < n → Says false (ill (listed (now comps)) c)) ⌝ }
-    ensures { λ r. ⌜ (r ≡ at + n) × (now (d .exit) ≡ placed (now (d .entry)) at (depthsOf (now (comps .entry)) n)) ⌝ }
+    requires { ⌜ (at + n ≤ length (now d)) × ((c : ℕ) → c < n → Says false (ill (now comps) c)) ⌝ }
+    ensures { λ r. ⌜ (r ≡ at + n) × (now (d .exit) ≡ placed (now (d .entry)) at (bpccContent (now (comps .entry)) n)) ⌝ }
 {
     let mut a = at;
     let mut c: u32 = 0;
@@ -114,20 +138,20 @@ fn put_depths(d: &mut [u8], at: usize, comps: &[u32], n: u32) -> usize
 
 // bpcc, where the components have not the same number of bits.
 fn opj_jp2_write_bpcc(d: &mut [u8], at: usize, comps: &[u32], s: Fields) -> usize
-    requires { ⌜ (at + bpccLength s ≤ length (now d)) × (s .numcomps ≤ 16384) × ((c : ℕ) → c < s .numcomps → Says false (ill (listed (now comps)) c)) ⌝ }
-    ensures { λ r. ⌜ (r ≡ at + bpccLength s) × (now (d .exit) ≡ placed (now (d .entry)) at (bpccOf (now (comps .entry)) s)) ⌝ }
+    requires { ⌜ (at + bpccLength s ≤ length (now d)) × (s .numcomps ≤ mostComponents) × ((c : ℕ) → c < s .numcomps → Says false (ill (now comps) c)) ⌝ }
+    ensures { λ r. ⌜ (r ≡ at + bpccLength s) × (now (d .exit) ≡ placed (now (d .entry)) at (bpcc (now (comps .entry)) s)) ⌝ }
 {
-    if s.bpc != 255 {
+    if s.bpc != VARIES {
         return at;
     }
-    let a = put_header(d, at, 0x6270_6363, s.numcomps);
+    let a = put_header(d, at, Jp2BoxType::BPCC, s.numcomps);
     put_depths(d, a, comps, s.numcomps)
 }
 
 // What the method asks for: the enumerated colour space, or the profile.
 fn put_specification(d: &mut [u8], at: usize, s: Fields, profile: &[u8]) -> usize
-    requires { ⌜ at + length (specificationOf s (now profile)) ≤ length (now d) ⌝ }
-    ensures { λ r. ⌜ (r ≡ at + length (specificationOf s (now (profile .entry)))) × (now (d .exit) ≡ placed (now (d .entry)) at (specificationOf s (now (profile .entry)))) ⌝ }
+    requires { ⌜ at + length (specification s (now profile)) ≤ length (now d) ⌝ }
+    ensures { λ r. ⌜ (r ≡ at + length (specification s (now (profile .entry)))) × (now (d .exit) ≡ placed (now (d .entry)) at (specification s (now (profile .entry)))) ⌝ }
 {
     if s.meth == 1 {
         return put(d, at, 4, s.enumcs);
@@ -137,7 +161,7 @@ fn put_specification(d: &mut [u8], at: usize, s: Fields, profile: &[u8]) -> usiz
 
 // How long the box is.
 fn colr_length(s: Fields, profile: u32) -> u32
-    requires { ⌜ profile ≤ 16777215 ⌝ }
+    requires { ⌜ profile ≤ mostProfile ⌝ }
     ensures { λ r. ⌜ r ≡ colrLength s profile ⌝ }
 {
     if s.meth == 1 {
@@ -147,10 +171,15 @@ fn colr_length(s: Fields, profile: u32) -> u32
 }
 
 fn opj_jp2_write_colr(d: &mut [u8], at: usize, s: Fields, profile: &[u8]) -> usize
-    requires { ⌜ (at + colrLength s (length (now profile)) ≤ length (now d)) × (length (now profile) ≤ 16777215) ⌝ }
-    ensures { λ r. ⌜ (r ≡ at + colrLength s (length (now (profile .entry)))) × (now (d .exit) ≡ placed (now (d .entry)) at (colrOf s (now (profile .entry)))) ⌝ }
+    requires { ⌜ (at + colrLength s (length (now profile)) ≤ length (now d)) × (length (now profile) ≤ mostProfile) ⌝ }
+    ensures { λ r. ⌜ (r ≡ at + colrLength s (length (now (profile .entry)))) × (now (d .exit) ≡ placed (now (d .entry)) at (colr s (now (profile .entry)))) ⌝ }
 {
-    let a0 = put_header(d, at, 0x636f_6c72, colr_length(s, profile.len() as u32) - 8);
+    let a0 = put_header(
+        d,
+        at,
+        Jp2BoxType::COLR,
+        colr_length(s, profile.len() as u32) - 8,
+    );
     let a1 = put(d, a0, 1, s.meth);
     let a2 = put(d, a1, 1, 0);
     let a3 = put(d, a2, 1, 0);
@@ -169,8 +198,8 @@ fn put_definition(d: &mut [u8], at: usize, channel: u32, typ: u32, asoc: u32) ->
 
 // The definition of channel c: a colour, the opacity, or a channel of which nothing is said.
 fn define(d: &mut [u8], at: usize, comps: &[u32], colours: u32, c: u32) -> usize
-    requires { ⌜ (at + 6 ≤ length (now d)) × (c < 16384) ⌝ }
-    ensures { λ r. ⌜ (r ≡ at + 6) × (now (d .exit) ≡ placed (now (d .entry)) at (cdef.fields (definitionOf (now (comps .entry)) colours c))) ⌝ }
+    requires { ⌜ (at + 6 ≤ length (now d)) × (c < mostComponents) ⌝ }
+    ensures { λ r. ⌜ (r ≡ at + 6) × (now (d .exit) ≡ placed (now (d .entry)) at (definitionBytes (definition (now (comps .entry)) colours c))) ⌝ }
 {
     if c < colours {
         return put_definition(d, at, c, 0, c + 1);
@@ -178,13 +207,13 @@ fn define(d: &mut [u8], at: usize, comps: &[u32], colours: u32, c: u32) -> usize
     if read_record::component(comps, c, 12) != 0 {
         return put_definition(d, at, c, 1, 0);
     }
-    put_definition(d, at, c, 65535, 65535)
+    put_definition(d, at, c, UNSPECIFIED, UNSPECIFIED)
 }
 
 // The definitions of the n channels.
 fn put_definitions(d: &mut [u8], at: usize, comps: &[u32], colours: u32, n: u32) -> usize
-    requires { ⌜ (at + 6 * n ≤ length (now d)) × (n ≤ 16384) ⌝ }
-    ensures { λ r. ⌜ (r ≡ at + 6 * n) × (now (d .exit) ≡ placed (now (d .entry)) at (definitionsOf (now (comps .entry)) colours n)) ⌝ }
+    requires { ⌜ (at + 6 * n ≤ length (now d)) × (n ≤ mostComponents) ⌝ }
+    ensures { λ r. ⌜ (r ≡ at + 6 * n) × (now (d .exit) ≡ placed (now (d .entry)) at (definitions (now (comps .entry)) colours n)) ⌝ }
 {
     let mut a = at;
     let mut c: u32 = 0;
@@ -197,30 +226,30 @@ fn put_definitions(d: &mut [u8], at: usize, comps: &[u32], colours: u32, n: u32)
 
 // cdef, where there are definitions.
 fn opj_jp2_write_cdef(d: &mut [u8], at: usize, comps: &[u32], s: Fields) -> usize
-    requires { ⌜ (at + cdefLength s ≤ length (now d)) × (s .definitions ≤ 16384) ⌝ }
-    ensures { λ r. ⌜ (r ≡ at + cdefLength s) × (now (d .exit) ≡ placed (now (d .entry)) at (cdefOf (now (comps .entry)) s)) ⌝ }
+    requires { ⌜ (at + cdefLength s ≤ length (now d)) × (s .definitions ≤ mostComponents) ⌝ }
+    ensures { λ r. ⌜ (r ≡ at + cdefLength s) × (now (d .exit) ≡ placed (now (d .entry)) at (cdef (now (comps .entry)) s)) ⌝ }
 {
     let n = s.definitions;
     if n == 0 {
         return at;
     }
-    let a = put_header(d, at, 0x6364_6566, 2 + 6 * n);
+    let a = put_header(d, at, Jp2BoxType::CDEF, 2 + 6 * n);
     let b = put(d, a, 2, n);
     put_definitions(d, b, comps, s.colours, n)
 }
 
 fn bpcc_length(s: Fields) -> u32
-    requires { ⌜ s .numcomps ≤ 16384 ⌝ }
+    requires { ⌜ s .numcomps ≤ mostComponents ⌝ }
     ensures { λ r. ⌜ r ≡ bpccLength s ⌝ }
 {
-    if s.bpc != 255 {
+    if s.bpc != VARIES {
         return 0;
     }
     8 + s.numcomps
 }
 
 fn cdef_length(s: Fields) -> u32
-    requires { ⌜ s .definitions ≤ 16384 ⌝ }
+    requires { ⌜ s .definitions ≤ mostComponents ⌝ }
     ensures { λ r. ⌜ r ≡ cdefLength s ⌝ }
 {
     if s.definitions == 0 {
@@ -231,7 +260,7 @@ fn cdef_length(s: Fields) -> u32
 
 // How long the content of jp2h is.
 fn jp2h_length(s: Fields, profile: u32) -> u32
-    requires { ⌜ (s .numcomps ≤ 16384) × (s .definitions ≤ 16384) × (profile ≤ 16777215) ⌝ }
+    requires { ⌜ (s .numcomps ≤ mostComponents) × (s .definitions ≤ mostComponents) × (profile ≤ mostProfile) ⌝ }
     ensures { λ r. ⌜ (r ≡ jp2hLength s profile) × (r ≤ 16975000) ⌝ }
 {
     22 + bpcc_length(s) + colr_length(s, profile) + cdef_length(s)
@@ -239,10 +268,15 @@ fn jp2h_length(s: Fields, profile: u32) -> u32
 
 // jp2h: ihdr, bpcc, colr and cdef.
 fn opj_jp2_write_jp2h(d: &mut [u8], at: usize, comps: &[u32], s: Fields, profile: &[u8]) -> usize
-    requires { ⌜ (at + (8 + jp2hLength s (length (now profile))) ≤ length (now d)) × Sound (now comps) s × (length (now profile) ≤ 16777215) ⌝ }
-    ensures { λ r. ⌜ (r ≡ at + (8 + jp2hLength s (length (now (profile .entry))))) × (now (d .exit) ≡ placed (now (d .entry)) at (jp2hOf (now (comps .entry)) s (now (profile .entry)))) ⌝ }
+    requires { ⌜ (at + (8 + jp2hLength s (length (now profile))) ≤ length (now d)) × Sound (now comps) s × (length (now profile) ≤ mostProfile) ⌝ }
+    ensures { λ r. ⌜ (r ≡ at + (8 + jp2hLength s (length (now (profile .entry))))) × (now (d .exit) ≡ placed (now (d .entry)) at (jp2h (now (comps .entry)) s (now (profile .entry)))) ⌝ }
 {
-    let a0 = put_header(d, at, 0x6a70_3268, jp2h_length(s, profile.len() as u32));
+    let a0 = put_header(
+        d,
+        at,
+        Jp2BoxType::JP2H,
+        jp2h_length(s, profile.len() as u32),
+    );
     let a1 = opj_jp2_write_ihdr(d, a0, s);
     let a2 = opj_jp2_write_bpcc(d, a1, comps, s);
     let a3 = opj_jp2_write_colr(d, a2, s, profile);
@@ -251,13 +285,13 @@ fn opj_jp2_write_jp2h(d: &mut [u8], at: usize, comps: &[u32], s: Fields, profile
 
 // All boxes and the header of the codestream's box, from the start of d on.
 fn write_front(d: &mut [u8], comps: &[u32], s: Fields, profile: &[u8], codestream: u32)
-    requires { ⌜ (frontLength s (length (now profile)) ≤ length (now d)) × (codestream ≤ 4261412863) × Sound (now comps) s × (length (now profile) ≤ 16777215) ⌝ }
-    ensures { λ _. ⌜ now (d .exit) ≡ placed (now (d .entry)) 0 (frontOf (now (comps .entry)) s (now (profile .entry)) codestream) ⌝ }
+    requires { ⌜ (frontLength s (length (now profile)) ≤ length (now d)) × (codestream ≤ mostCodestream) × Sound (now comps) s × (length (now profile) ≤ mostProfile) ⌝ }
+    ensures { λ _. ⌜ now (d .exit) ≡ placed (now (d .entry)) 0 (front (now (comps .entry)) s (now (profile .entry)) codestream) ⌝ }
 {
     let a0 = opj_jp2_write_jp(d, 0);
     let a1 = opj_jp2_write_ftyp(d, a0);
     let a2 = opj_jp2_write_jp2h(d, a1, comps, s, profile);
-    put_header(d, a2, 0x6a70_3263, codestream);
+    put_header(d, a2, Jp2BoxType::JP2C, codestream);
 }
 
 // Whether the picture has a height and a width.
@@ -271,17 +305,17 @@ fn opj_jp2_default_validation(s: Fields) -> bool
 }
 
 // Writes the boxes of a picture whose fields are set up: 33, 34 and 30 first.
-fn write_ready(d: &mut [u8], comps: &[u32], s: Fields, profile: &[u8], codestream: u64) -> Written
+fn write_fields(d: &mut [u8], comps: &[u32], s: Fields, profile: &[u8], codestream: u64) -> Written
     requires { ⌜ Sound (now comps) s ⌝ }
-    ensures { λ r. ⌜ (r ≡ answered (ready (now (comps .entry)) s (now (profile .entry)) codestream (length (now (d .entry))))) × (now (d .exit) ≡ destination (now (d .entry)) (ready (now (comps .entry)) s (now (profile .entry)) codestream (length (now (d .entry))))) ⌝ }
+    ensures { λ r. ⌜ (r ≡ answered (writeFields (now (comps .entry)) s (now (profile .entry)) codestream (length (now (d .entry))))) × (now (d .exit) ≡ destination (now (d .entry)) (writeFields (now (comps .entry)) s (now (profile .entry)) codestream (length (now (d .entry))))) ⌝ }
 {
     if !opj_jp2_default_validation(s) {
         return Written::Refused(33, 0);
     }
-    if 16777215 < profile.len() {
+    if MOST_PROFILE < profile.len() {
         return Written::Refused(34, 0);
     }
-    if 4261412863 < codestream {
+    if MOST_CODESTREAM < codestream {
         return Written::Refused(34, 0);
     }
     let needed = 48 + jp2h_length(s, profile.len() as u32);
@@ -311,6 +345,6 @@ pub fn write_boxes(
 {
     match write_setup::opj_jp2_setup_encoder(comps, count, x0, y0, x1, y1, space, profile) {
         Encoder::Refused(number, index) => Written::Refused(number, index as u64),
-        Encoder::Ready(s) => write_ready(d, comps, s, profile, codestream),
+        Encoder::Ready(s) => write_fields(d, comps, s, profile, codestream),
     }
 }

@@ -8,6 +8,7 @@ use native.Mathlib.Omega.{arith}
 use lib.ListN.{length, length-append}
 use Rattle.box_number.specs.Table.{_=?_, _≠?_, otherwise, _⇒_∣_, table}
 use Rattle.box_number.proofs.Rows.{row}
+use Rattle.box_kind.specs.declared.Jp2BoxType.the-variants.{IHDR, BPCC, COLR, CDEF}
 use Rattle.box_number.proofs.Bytes.{length-bytes}
 use Rattle.read_record.specs.declared.Span.{Span}
 use Rattle.read_record.specs.declared.Jp2.{Jp2}
@@ -19,33 +20,35 @@ use Rattle.read_jp2h.specs.Jp2h.{readAll, lacksIhdr, withHeaderBit}
 use Rattle.box_number.proofs.Indices.{decide}
 use Rattle.write_rules.specs.Request.{Request}
 use Rattle.write_rules.specs.Jp2h.{jp2hContent}
-use Rattle.write_rules.specs.Setup.{BR, MinV, NC, BPC, METH, N}
+use Rattle.write_rules.specs.Setup.{varies, fieldsOf}
+use Rattle.write_rules.specs.FileType.{BR, MinV}
 use Rattle.write_rules.specs.Box.{box}
 use Rattle.write_rules.specs.Ihdr.{ihdr, ihdrContent}
 use Rattle.write_rules.specs.Bpcc.{bpcc, bpccContent}
 use Rattle.write_rules.specs.Colr.{colr, specification, colrContent}
 use Rattle.write_rules.specs.Cdef.{cdef, cdefContent}
-use Rattle.write_rules.proofs.Splitting.{length-box, split-box}
+use Rattle.write_rules.proofs.Splitting.{split-box}
+use Rattle.write_rules.proofs.Lengths.{length-box, length-ihdrContent, length-ihdr, length-bpccContent, length-colrContent, length-cdefContent}
 use Rattle.write_rules.proofs.Steps.{Reads, no-child, no-more, child-box}
 use Rattle.write_rules.proofs.Bounds.{Fit, n-most, meth-cases}
-use Rattle.write_rules.proofs.Children.{length-ihdrContent, length-bpccContent, length-colrContent, length-cdefContent, sized, painted, spec-one, spec-two, ihdr-read, bpcc-read, colr-one, colr-two, cdef-read}
+use Rattle.write_rules.proofs.Children.{sized, painted, spec-one, spec-two, ihdr-read, bpcc-read, colr-one, colr-two, cdef-read}
 
 -- where bpcc, colr and cdef stand
 abbrev pub colrAt : Request → ℕ
-colrAt r = 62 + length (bpcc r)
+colrAt r = 62 + length (bpcc (r .components) (fieldsOf r))
 
 abbrev pub cdefAt : Request → ℕ
-cdefAt r = colrAt r + length (colr r)
+cdefAt r = colrAt r + length (colr (fieldsOf r) (r .profile))
 
 -- the lists that are found
 unfoldable pub bitsAt : Request → Span
-bitsAt r = table (BPC r ≠? 255 ⇒ span 0 0 ∣ otherwise (span 70 (NC r)))
+bitsAt r = table (fieldsOf r .bpc ≠? varies ⇒ span 0 0 ∣ otherwise (span 70 (r .count)))
 
 unfoldable pub iccAt : Request → Span
-iccAt r = table (METH r =? 1 ⇒ span 0 0 ∣ otherwise (span (colrAt r + 8 + 3) (length (r .profile))))
+iccAt r = table (fieldsOf r .meth =? 1 ⇒ span 0 0 ∣ otherwise (span (colrAt r + 8 + 3) (length (r .profile))))
 
 unfoldable pub defsAt : Request → Span
-defsAt r = table (N r =? 0 ⇒ span 0 0 ∣ otherwise (span (cdefAt r + 8 + 2) (N r)))
+defsAt r = table (fieldsOf r .definitions =? 0 ⇒ span 0 0 ∣ otherwise (span (cdefAt r + 8 + 2) (fieldsOf r .definitions)))
 
 -- the record after each box
 abbrev pub afterType : Jp2
@@ -63,125 +66,122 @@ afterColr r = withIcc (iccAt r) (withColour (painted r (afterBpcc r)) (afterBpcc
 abbrev pub afterCdef : Request → Jp2
 afterCdef r = withCdef (defsAt r) (afterColr r)
 
-pub bpcc-none : (r : Request) → (BPC r ≡ 255 → ⊥) → (bpcc r ≡ []) × (bitsAt r ≡ span 0 0)
+pub bpcc-none : (r : Request) → (fieldsOf r .bpc ≡ varies → ⊥) → (bpcc (r .components) (fieldsOf r) ≡ []) × (bitsAt r ≡ span 0 0)
 unfolding bpcc bitsAt
 bpcc-none r h = (sym (row 0 _ h refl), sym (row 0 _ h refl))
 
-pub bpcc-some : (r : Request) → BPC r ≡ 255 → (bpcc r ≡ box 0x62706363 (bpccContent r)) × (bitsAt r ≡ span 70 (NC r))
+pub bpcc-some : (r : Request) → fieldsOf r .bpc ≡ varies → (bpcc (r .components) (fieldsOf r) ≡ box BPCC (bpccContent (r .components) (r .count))) × (bitsAt r ≡ span 70 (r .count))
 unfolding bpcc bitsAt
 bpcc-some r h = (sym (row 1 _ (h, tt) refl), sym (row 1 _ (h, tt) refl))
 
-pub icc-none : (r : Request) → METH r ≡ 1 → iccAt r ≡ span 0 0
+pub icc-none : (r : Request) → fieldsOf r .meth ≡ 1 → iccAt r ≡ span 0 0
 unfolding iccAt
 icc-none r h = sym (row 0 _ h refl)
 
-pub icc-some : (r : Request) → METH r ≡ 2 → iccAt r ≡ span (colrAt r + 8 + 3) (length (r .profile))
+pub icc-some : (r : Request) → fieldsOf r .meth ≡ 2 → iccAt r ≡ span (colrAt r + 8 + 3) (length (r .profile))
 unfolding iccAt
 icc-some r h = sym (row 1 _ (omega arith) refl)
 
-pub cdef-none : (r : Request) → N r ≡ 0 → (cdef r ≡ []) × (defsAt r ≡ span 0 0)
+pub cdef-none : (r : Request) → fieldsOf r .definitions ≡ 0 → (cdef (r .components) (fieldsOf r) ≡ []) × (defsAt r ≡ span 0 0)
 unfolding cdef defsAt
 cdef-none r h = (sym (row 0 _ h refl), sym (row 0 _ h refl))
 
-pub cdef-some : (r : Request) → (N r ≡ 0 → ⊥) → (cdef r ≡ box 0x63646566 (cdefContent r)) × (defsAt r ≡ span (cdefAt r + 8 + 2) (N r))
+pub cdef-some : (r : Request) → (fieldsOf r .definitions ≡ 0 → ⊥) → (cdef (r .components) (fieldsOf r) ≡ box CDEF (cdefContent (r .components) (fieldsOf r))) × (defsAt r ≡ span (cdefAt r + 8 + 2) (fieldsOf r .definitions))
 unfolding cdef defsAt
 cdef-some r h = (sym (row 1 _ (h, tt) refl), sym (row 1 _ (h, tt) refl))
 
-pub length-ihdr : (r : Request) → length (ihdr r) ≡ 22
-length-ihdr r = length-box 0x69686472 (ihdrContent r) ∙ rw (length-ihdrContent r) refl
-
 module _ (r : Request) (fit : Fit r) where
-  bpcc-most : length (bpcc r) ≤ 16392
+  bpcc-most : length (bpcc (r .components) (fieldsOf r)) ≤ 16392
   bpcc-most =
       let m = fit .most in
-      decide (BPC r ≠? 255)
+      decide (fieldsOf r .bpc ≠? varies)
       (λ h. rw (bpcc-none r h .0) (omega arith))
-      (λ h. rw (bpcc-some r h .0, length-box, length-bpccContent r) (omega arith))
+      (λ h. rw (bpcc-some r h .0, length-box, length-bpccContent (r .components) (r .count)) (omega arith))
 
-  spec-most : length (specification r) ≤ 16777219
+  spec-most : length (specification (fieldsOf r) (r .profile)) ≤ 16777219
   spec-most =
       let m = fit .profile in
       meth-cases r (λ e _. rw (spec-one r fit e, length-bytes) (omega arith)) (λ e _. rw (spec-two r fit e) (omega arith))
 
-  colr-most : length (colr r) ≤ 16777230
-  colr-most = let s = spec-most in rw (length-box 0x636f6c72 (colrContent r), length-colrContent r) (omega arith)
+  colr-most : length (colr (fieldsOf r) (r .profile)) ≤ 16777230
+  colr-most = let s = spec-most in rw (length-box COLR (colrContent (fieldsOf r) (r .profile)), length-colrContent (fieldsOf r) (r .profile)) (omega arith)
 
-  cdef-most : length (cdef r) ≤ 98314
+  cdef-most : length (cdef (r .components) (fieldsOf r)) ≤ 98314
   cdef-most =
       let m = fit .most in
       let n = n-most r fit in
-      decide (N r =? 0)
+      decide (fieldsOf r .definitions =? 0)
       (λ h. rw (cdef-none r h .0) (omega arith))
-      (λ h. rw (cdef-some r h .0, length-box, length-cdefContent r) (omega arith))
+      (λ h. rw (cdef-some r h .0, length-box, length-cdefContent (r .components) (fieldsOf r)) (omega arith))
 
   module _ (n : ℕ) (rest : List ℕ) where
-    ihdr-step : length (ihdr r ++ rest) ≤ n → Reads n 40 (ihdr r) rest (withImgstate 0 afterType) (afterIhdr r)
-    ihdr-step h = child-box 0x69686472 (ihdrContent r) rest (rw (length-ihdrContent r) (omega arith)) (omega arith) n 40 (withImgstate 0 afterType) (afterIhdr r) h (ihdr-read r fit 40 (withImgstate 0 afterType) refl)
+    ihdr-step : length (ihdr (fieldsOf r) ++ rest) ≤ n → Reads n 40 (ihdr (fieldsOf r)) rest (withImgstate 0 afterType) (afterIhdr r)
+    ihdr-step h = child-box IHDR (ihdrContent (fieldsOf r)) rest (rw (length-ihdrContent (fieldsOf r)) (omega arith)) (omega arith) n 40 (withImgstate 0 afterType) (afterIhdr r) h (ihdr-read r fit 40 (withImgstate 0 afterType) refl)
 
-    bpcc-step : length (bpcc r ++ rest) ≤ n → Reads n 62 (bpcc r) rest (afterIhdr r) (afterBpcc r)
+    bpcc-step : length (bpcc (r .components) (fieldsOf r) ++ rest) ≤ n → Reads n 62 (bpcc (r .components) (fieldsOf r)) rest (afterIhdr r) (afterBpcc r)
     bpcc-step h =
         let m = fit .most in
-        decide (BPC r ≠? 255)
+        decide (fieldsOf r .bpc ≠? varies)
         (λ x. let e = bpcc-none r x in rw (e .0, e .1) (no-child n 62 rest (afterIhdr r) (rw (e .0) at h)))
         (λ x.
         let e = bpcc-some r x in
-        let l = length-bpccContent r in
+        let l = length-bpccContent (r .components) (r .count) in
         rw (e .0, e .1)
-        (child-box 0x62706363 (bpccContent r) rest (omega arith) (omega arith) n 62 (afterIhdr r) (withBpcc (span 70 (NC r)) (afterIhdr r)) (rw (e .0) at h) (bpcc-read r fit 62 (afterIhdr r) refl)))
+        (child-box BPCC (bpccContent (r .components) (r .count)) rest (omega arith) (omega arith) n 62 (afterIhdr r) (withBpcc (span 70 (r .count)) (afterIhdr r)) (rw (e .0) at h) (bpcc-read r fit 62 (afterIhdr r) refl)))
 
-    colr-step : length (colr r ++ rest) ≤ n → Reads n (colrAt r) (colr r) rest (afterBpcc r) (afterColr r)
+    colr-step : length (colr (fieldsOf r) (r .profile) ++ rest) ≤ n → Reads n (colrAt r) (colr (fieldsOf r) (r .profile)) rest (afterBpcc r) (afterColr r)
     colr-step h =
         let s = spec-most in
-        let l = length-colrContent r in
-        let step : (m : Jp2) → _ → Reads n (colrAt r) (colr r) rest (afterBpcc r) m = λ m e. child-box 0x636f6c72 (colrContent r) rest (omega arith) (omega arith) n (colrAt r) (afterBpcc r) m h e in
+        let l = length-colrContent (fieldsOf r) (r .profile) in
+        let step : (m : Jp2) → _ → Reads n (colrAt r) (colr (fieldsOf r) (r .profile)) rest (afterBpcc r) m = λ m e. child-box COLR (colrContent (fieldsOf r) (r .profile)) rest (omega arith) (omega arith) n (colrAt r) (afterBpcc r) m h e in
         meth-cases r
         (λ e z. rw (icc-none r e) (step _ (colr-one r fit (colrAt r) (afterBpcc r) e refl)))
         (λ e z. rw (icc-some r e) (step _ (colr-two r fit (colrAt r) (afterBpcc r) e z refl refl)))
 
-    cdef-step : length (cdef r ++ rest) ≤ n → Reads n (cdefAt r) (cdef r) rest (afterColr r) (afterCdef r)
+    cdef-step : length (cdef (r .components) (fieldsOf r) ++ rest) ≤ n → Reads n (cdefAt r) (cdef (r .components) (fieldsOf r)) rest (afterColr r) (afterCdef r)
     cdef-step h =
         let m = fit .most in
         let b = n-most r fit in
-        decide (N r =? 0)
+        decide (fieldsOf r .definitions =? 0)
         (λ x. let e = cdef-none r x in rw (e .0, e .1) (no-child n (cdefAt r) rest (afterColr r) (rw (e .0) at h)))
         (λ x.
         let e = cdef-some r x in
-        let l = length-cdefContent r in
+        let l = length-cdefContent (r .components) (fieldsOf r) in
         rw (e .0, e .1)
-        (child-box 0x63646566 (cdefContent r) rest (omega arith) (omega arith) n (cdefAt r) (afterColr r) (withCdef (span (cdefAt r + 8 + 2) (N r)) (afterColr r)) (rw (e .0) at h) (cdef-read r fit (cdefAt r) (afterColr r) x refl)))
+        (child-box CDEF (cdefContent (r .components) (fieldsOf r)) rest (omega arith) (omega arith) n (cdefAt r) (afterColr r) (withCdef (span (cdefAt r + 8 + 2) (fieldsOf r .definitions)) (afterColr r)) (rw (e .0) at h) (cdef-read r fit (cdefAt r) (afterColr r) x refl)))
 
   -- all boxes of jp2h, one after the other
   abbrev tail : List ℕ
-  tail = bpcc r ++ (colr r ++ (cdef r ++ []))
+  tail = bpcc (r .components) (fieldsOf r) ++ (colr (fieldsOf r) (r .profile) ++ (cdef (r .components) (fieldsOf r) ++ []))
 
-  all-read : (n : ℕ) → length (ihdr r ++ tail) ≤ n → readAll (split n 40 (ihdr r ++ tail)) (withImgstate 0 afterType) ≡ accepted (afterCdef r)
+  all-read : (n : ℕ) → length (ihdr (fieldsOf r) ++ tail) ≤ n → readAll (split n 40 (ihdr (fieldsOf r) ++ tail)) (withImgstate 0 afterType) ≡ accepted (afterCdef r)
   all-read n h =
       let a = ihdr-step n tail h in
-      let b = bpcc-step (a .fuel) (colr r ++ (cdef r ++ [])) (a .enough) in
-      let c = colr-step (b .fuel) (cdef r ++ []) (b .enough) in
+      let b = bpcc-step (a .fuel) (colr (fieldsOf r) (r .profile) ++ (cdef (r .components) (fieldsOf r) ++ [])) (a .enough) in
+      let c = colr-step (b .fuel) (cdef (r .components) (fieldsOf r) ++ []) (b .enough) in
       let d = cdef-step (c .fuel) [] (c .enough) in
-      let first : readAll (split n 40 (ihdr r ++ tail)) (withImgstate 0 afterType) ≡ readAll (split (a .fuel) 62 tail) (afterIhdr r) = rw (length-ihdr r) at (a .same) in
-      first ∙ b .same ∙ c .same ∙ d .same ∙ no-more (d .fuel) (cdefAt r + length (cdef r)) (afterCdef r)
+      let first : readAll (split n 40 (ihdr (fieldsOf r) ++ tail)) (withImgstate 0 afterType) ≡ readAll (split (a .fuel) 62 tail) (afterIhdr r) = rw (length-ihdr (fieldsOf r)) at (a .same) in
+      first ∙ b .same ∙ c .same ∙ d .same ∙ no-more (d .fuel) (cdefAt r + length (cdef (r .components) (fieldsOf r))) (afterCdef r)
 
   -- ihdr is the first of them
-  has-ihdr : (n : ℕ) (rest : List ℕ) → length (ihdr r ++ rest) ≤ n → lacksIhdr (split n 40 (ihdr r ++ rest)) ≡ false
+  has-ihdr : (n : ℕ) (rest : List ℕ) → length (ihdr (fieldsOf r) ++ rest) ≤ n → lacksIhdr (split n 40 (ihdr (fieldsOf r) ++ rest)) ≡ false
   unfolding lacksIhdr
-  has-ihdr zero rest h = absurd (omega (arith, length-append (ihdr r) rest, length-ihdr r))
-  has-ihdr (suc n) rest h = rw (split-box 0x69686472 (ihdrContent r) rest (rw (length-ihdrContent r) (omega arith)) (omega arith) n 40) refl
+  has-ihdr zero rest h = absurd (omega (arith, length-append (ihdr (fieldsOf r)) rest, length-ihdr (fieldsOf r)))
+  has-ihdr (suc n) rest h = rw (split-box IHDR (ihdrContent (fieldsOf r)) rest (rw (length-ihdrContent (fieldsOf r)) (omega arith)) (omega arith) n 40) refl
 
-  grouped : jp2hContent r ≡ ihdr r ++ tail
+  grouped : jp2hContent (r .components) (fieldsOf r) (r .profile) ≡ ihdr (fieldsOf r) ++ tail
   grouped = simp (append-assoc, append-nil)
 
-  pub jp2h-read : walk.jp2h 32 40 (jp2hContent r) afterType ≡ accepted (withHeaderBit (afterCdef r))
+  pub jp2h-read : walk.jp2h 32 40 (jp2hContent (r .components) (fieldsOf r) (r .profile)) afterType ≡ accepted (withHeaderBit (afterCdef r))
   unfolding walk.jp2h
   jp2h-read =
-      let c = ihdr r ++ tail in
+      let c = ihdr (fieldsOf r) ++ tail in
       let reads : readAll (boxes 40 c) (withImgstate 0 afterType) ≡ accepted (afterCdef r) = all-read (length c) (omega arith) in
       let has : lacksIhdr (boxes 40 c) ≡ false = has-ihdr (length c) tail (omega arith) in
       rw grouped (sym (row 1 _ (omega arith) (rw reads (row 1 _ (has, tt) refl))))
 
-  pub length-children : length (jp2hContent r) ≡ 22 + length (bpcc r) + length (colr r) + length (cdef r)
+  pub length-children : length (jp2hContent (r .components) (fieldsOf r) (r .profile)) ≡ 22 + length (bpcc (r .components) (fieldsOf r)) + length (colr (fieldsOf r) (r .profile)) + length (cdef (r .components) (fieldsOf r))
   length-children = simp (length-append, length-ihdr)
 
-  pub children-most : length (jp2hContent r) ≤ 16891958
+  pub children-most : length (jp2hContent (r .components) (fieldsOf r) (r .profile)) ≤ 16891958
   children-most = omega (arith, length-children, bpcc-most, colr-most, cdef-most)

@@ -1,4 +1,5 @@
-pub mod Fields
+pub mod Numbers
+pub mod Lengths
 pub mod Splitting
 pub mod Steps
 pub mod Bounds

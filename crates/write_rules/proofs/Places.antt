@@ -8,13 +8,13 @@ use native.Mathlib.Omega.{arith}
 use lib.ListN.{length, getD, take, drop, length-append, length-take, length-drop, List·getD-append}
 use lib.Seq.{take-append-seam, drop-append-seam, getD-take, getD-drop, ext-getD}
 use Rattle.box_number.specs.Number.{number, part}
+use Rattle.box_kind.specs.declared.Jp2BoxType.{Jp2BoxType}
 use Rattle.read_rules.proofs.Sames.{within, number-same}
 use Rattle.read_rules.proofs.Parts.{Lies, lies-drop, lies-part}
 use Rattle.box_number.proofs.Indices.{last-or}
 use Rattle.write_rules.specs.Box.{boxHeader, box, series}
-use Rattle.write_rules.proofs.Fields.{number-after}
-use Rattle.write_rules.proofs.Splitting.{length-header}
-use Rattle.write_rules.proofs.Bounds.{length-series}
+use Rattle.write_rules.proofs.Numbers.{number-after}
+use Rattle.write_rules.proofs.Lengths.{length-header, length-series}
 
 module _ {f : List ℕ} {at : ℕ} where
   pub lies-right : (a b : List ℕ) → Lies f at (a ++ b) → (to : ℕ) → at + length a ≡ to → Lies f to b
@@ -26,7 +26,7 @@ module _ {f : List ℕ} {at : ℕ} where
       let e : length a - 0 ≡ length a = omega arith in
       rw (e, take-append-seam a b, add-zero) at (lies-part p 0 (length a) (omega arith))
 
-  pub lies-content : (type : ℕ) (content : List ℕ) → Lies f at (box type content) → Lies f (at + 8) content
+  pub lies-content : (type : Jp2BoxType) (content : List ℕ) → Lies f at (box type content) → Lies f (at + 8) content
   unfolding box
   lies-content type content p = lies-right (boxHeader type (length content)) content p (at + 8) (ap (λ (n : ℕ). at + n) (length-header type (length content)))
 

@@ -7,38 +7,32 @@ use native.Mathlib.Omega.{arith}
 use lib.ListN.{length, drop, length-append}
 use lib.Seq.{drop-at, take-append-seam}
 use Rattle.box_number.specs.Number.{part, bytes}
-use Rattle.box_number.proofs.Bytes.{length-bytes}
 use Rattle.box_number.proofs.Rows.{row}
+use Rattle.box_kind.specs.Kind.{numberOf}
+use Rattle.box_kind.specs.declared.Jp2BoxType.{Jp2BoxType}
 use Rattle.box_header.specs.Box.{LBox, TBox, headerLength, boxLength}
 use Rattle.box_header.proofs.Headers.{header-8, box-plain}
 use Rattle.read_jp2h.specs.Split.{Box, _▸_, split}
 use Rattle.write_rules.specs.Box.{boxHeader, box}
-use Rattle.write_rules.proofs.Fields.{number-here, number-next}
+use Rattle.write_rules.proofs.Lengths.{length-header, length-box}
+use Rattle.write_rules.proofs.Numbers.{number-here, number-next}
 
--- a box by its type, its place and its content
-abbrev pub boxAt : ℕ → ℕ → List ℕ → Box
-boxAt type at content = record { type = type; place = at; start = at + 8; content = content }
-
-pub length-header : (type n : ℕ) → length (boxHeader type n) ≡ 8
-unfolding boxHeader
-length-header type n = simp (length-append, length-bytes)
-
-pub length-box : (type : ℕ) (content : List ℕ) → length (box type content) ≡ 8 + length content
-unfolding box
-length-box type content = simp (length-append, length-header)
+-- a box by its kind, its place and its content
+abbrev pub boxAt : Jp2BoxType → ℕ → List ℕ → Box
+boxAt type at content = record { type = numberOf type; place = at; start = at + 8; content = content }
 
 -- what a written header says
-module _ (type n : ℕ) (rest : List ℕ) (small : 8 + n ≤ 4294967295) (known : type < 4294967296) where
+module _ (type : Jp2BoxType) (n : ℕ) (rest : List ℕ) (small : 8 + n ≤ 4294967295) (known : numberOf type < 4294967296) where
   abbrev c : List ℕ
   c = boxHeader type n ++ rest
 
   pub lbox : LBox (boxHeader type n ++ rest) ≡ 8 + n
   unfolding boxHeader
-  lbox = rw append-assoc (number-here 4 (8 + n) (bytes 4 type ++ rest) (omega arith) (omega arith))
+  lbox = rw append-assoc (number-here 4 (8 + n) (bytes 4 (numberOf type) ++ rest) (omega arith) (omega arith))
 
-  pub tbox : TBox (boxHeader type n ++ rest) ≡ type
+  pub tbox : TBox (boxHeader type n ++ rest) ≡ numberOf type
   unfolding boxHeader
-  tbox = rw append-assoc (number-next 4 (8 + n) (bytes 4 type ++ rest) 0 4 ∙ number-here 4 type rest (omega arith) (omega arith))
+  tbox = rw append-assoc (number-next 4 (8 + n) (bytes 4 (numberOf type) ++ rest) 0 4 ∙ number-here 4 (numberOf type) rest (omega arith) (omega arith))
 
   pub header-is : headerLength (boxHeader type n ++ rest) ≡ 8
   header-is = header-8 c (λ e. omega (arith, lbox))
@@ -50,7 +44,7 @@ module _ (type n : ℕ) (rest : List ℕ) (small : 8 + n ≤ 4294967295) (known 
   after = drop-at (boxHeader type n) rest 8 (length-header type n)
 
 -- a whole box
-module _ (type : ℕ) (content rest : List ℕ) (small : 8 + length content ≤ 4294967295) (known : type < 4294967296) where
+module _ (type : Jp2BoxType) (content rest : List ℕ) (small : 8 + length content ≤ 4294967295) (known : numberOf type < 4294967296) where
   front-is : box type content ++ rest ≡ boxHeader type (length content) ++ (content ++ rest)
   unfolding box
   front-is = simp append-assoc
@@ -70,7 +64,7 @@ module _ (type : ℕ) (content rest : List ℕ) (small : 8 + length content ≤ 
       let m = length content in
       let x = content ++ rest in
       let l : LBox (box type content ++ rest) ≡ 8 + m = rw front-is (lbox type m x small known) in
-      let t : TBox (box type content ++ rest) ≡ type = rw front-is (tbox type m x small known) in
+      let t : TBox (box type content ++ rest) ≡ numberOf type = rw front-is (tbox type m x small known) in
       let h : headerLength (box type content ++ rest) ≡ 8 = rw front-is (header-is type m x small known) in
       let b : boxLength (box type content ++ rest) ≡ 8 + m = rw front-is (long type m x small known) in
       let s : length (box type content ++ rest) ≡ 8 + m + length rest = simp (length-append, length-box) in

@@ -8,6 +8,9 @@ use native.Mathlib.Omega.{arith}
 use lib.ListN.{length, length-append}
 use Rattle.box_number.specs.Table.{_<?_}
 use Rattle.box_number.proofs.Rows.{row}
+use Rattle.box_kind.specs.Kind.{numberOf}
+use Rattle.box_kind.specs.declared.Jp2BoxType.{Jp2BoxType}
+use Rattle.box_kind.specs.declared.Jp2BoxType.the-variants.{JP2C}
 use Rattle.box_header.specs.Box.{headerLength, boxLength}
 use Rattle.read_record.specs.declared.Jp2.{Jp2}
 use Rattle.read_record.specs.Record.{withState}
@@ -19,7 +22,8 @@ use Rattle.read_jp2h.specs.Jp2h.{readAll}
 use Rattle.read_file.specs.File.{Walked, codestream, stream, outer, run}
 use Rattle.box_number.proofs.Indices.{decide}
 use Rattle.write_rules.specs.Box.{boxHeader, box}
-use Rattle.write_rules.proofs.Splitting.{boxAt, length-header, length-box, split-box, lbox, tbox, header-is, long}
+use Rattle.write_rules.proofs.Lengths.{length-header, length-box}
+use Rattle.write_rules.proofs.Splitting.{boxAt, split-box, lbox, tbox, header-is, long}
 
 -- inside jp2h: reading c and then rest, from k on, is reading rest from m on
 pub record Reads (n at : ℕ) (c rest : List ℕ) (k m : Jp2) : Type 0 where
@@ -43,7 +47,7 @@ unfolding split readAll
 no-more zero at k = refl
 no-more (suc n) at k = ap (λ bs. readAll bs k) (sym (row 0 _ refl refl))
 
-module _ (type : ℕ) (content rest : List ℕ) (small : 8 + length content ≤ 4294967295) (known : type < 4294967296) where
+module _ (type : Jp2BoxType) (content rest : List ℕ) (small : 8 + length content ≤ 4294967295) (known : numberOf type < 4294967296) where
   both : length (box type content ++ rest) ≡ 8 + length content + length rest
   both = simp (length-append, length-box)
 
@@ -52,7 +56,7 @@ module _ (type : ℕ) (content rest : List ℕ) (small : 8 + length content ≤ 
   child-box zero at k m h e = absurd (omega (arith, both))
   child-box (suc n) at k m h e = record { fuel = n; enough = omega (arith, both); same = rw (split-box type content rest small known n at, e, length-box) refl }
 
-  pub file-box : (n at : ℕ) (k m : Jp2) → (type ≡ 0x6a703263 → ⊥) → length (box type content ++ rest) ≤ n → outer (boxAt type at content) k ≡ accepted m → Walks n at (box type content) rest k m
+  pub file-box : (n at : ℕ) (k m : Jp2) → (numberOf type ≡ numberOf JP2C → ⊥) → length (box type content ++ rest) ≤ n → outer (boxAt type at content) k ≡ accepted m → Walks n at (box type content) rest k m
   unfolding run
   file-box zero at k m t h e = absurd (omega (arith, both))
   file-box (suc n) at k m t h e =
@@ -74,24 +78,24 @@ module _ (k : Jp2) (head : headerBit k ≡ 0 → ⊥) where
   stream-is : (b : Box) → stream b k ≡ reached (b .start)
   stream-is b = sym (row 1 _ (head, tt) refl)
 
-  past-is : (b : Box) → b .type ≡ 0x6a703263 → run (past b) k ≡ reached (b .start)
+  past-is : (b : Box) → b .type ≡ numberOf JP2C → run (past b) k ≡ reached (b .start)
   unfolding run
   past-is b t = sym (row 0 _ t refl) ∙ stream-is b
 
-  whole-is : (b : Box) → b .type ≡ 0x6a703263 → (n at : ℕ) (c : List ℕ) → run (b ▸ split n at c) k ≡ reached (b .start)
+  whole-is : (b : Box) → b .type ≡ numberOf JP2C → (n at : ℕ) (c : List ℕ) → run (b ▸ split n at c) k ≡ reached (b .start)
   unfolding run
   whole-is b t n at c = sym (row 0 _ t refl) ∙ stream-is b
 
-  pub stream-box : (n at size : ℕ) (rest : List ℕ) → 8 + size ≤ 4294967295 → 8 + length rest ≤ n → run (split n at (boxHeader 0x6a703263 size ++ rest)) k ≡ reached (at + 8)
+  pub stream-box : (n at size : ℕ) (rest : List ℕ) → 8 + size ≤ 4294967295 → 8 + length rest ≤ n → run (split n at (boxHeader JP2C size ++ rest)) k ≡ reached (at + 8)
   unfolding split
   stream-box zero at size rest small enough = absurd (omega arith)
   stream-box (suc n) at size rest small enough =
-      let c = boxHeader 0x6a703263 size ++ rest in
-      let known : 0x6a703263 < 4294967296 = omega arith in
-      let l = lbox 0x6a703263 size rest small known in
-      let t = tbox 0x6a703263 size rest small known in
-      let h = header-is 0x6a703263 size rest small known in
-      let b = long 0x6a703263 size rest small known in
+      let c = boxHeader JP2C size ++ rest in
+      let known : numberOf JP2C < 4294967296 = omega arith in
+      let l = lbox JP2C size rest small known in
+      let t = tbox JP2C size rest small known in
+      let h = header-is JP2C size rest small known in
+      let b = long JP2C size rest small known in
       let s : length c ≡ 8 + length rest = simp (length-append, length-header) in
       let start : reached (at + headerLength c) ≡ reached (at + 8) = ap (λ (x : ℕ). reached (at + x)) h in
       decide (length c <? boxLength c)

@@ -9,6 +9,7 @@ use Rattle.box_number.specs.Number.{number, bytes}
 use Rattle.box_number.specs.Table.{table}
 use Rattle.box_number.proofs.Rows.{row}
 use Rattle.box_number.proofs.Bytes.{length-bytes}
+use Rattle.box_kind.specs.declared.Jp2BoxType.the-variants.{JP, FTYP, JP2H, JP2C}
 use Rattle.read_record.specs.declared.Jp2.{Jp2}
 use Rattle.read_record.specs.Record.{blank, withState}
 use Rattle.read_record.specs.State.{headerBit, withBit}
@@ -19,37 +20,32 @@ use Rattle.read_jp2h.specs.Split.{split}
 use Rattle.read_jp2h.specs.Jp2h.{withHeaderBit}
 use Rattle.read_file.specs.File.{codestream, outer, run, walk, read}
 use Rattle.write_rules.specs.Request.{Request}
-use Rattle.write_rules.specs.Setup.{BR, MinV, CL}
-use Rattle.write_rules.specs.Signature.{signature}
-use Rattle.write_rules.specs.FileType.{fileType}
+use Rattle.write_rules.specs.Setup.{fieldsOf}
+use Rattle.write_rules.specs.Signature.{magic, signature}
+use Rattle.write_rules.specs.FileType.{fileTypeContent, fileType}
 use Rattle.write_rules.specs.Jp2h.{jp2h, jp2hContent}
 use Rattle.write_rules.specs.Stream.{streamHeader}
 use Rattle.write_rules.specs.Writing.{front}
-use Rattle.write_rules.proofs.Splitting.{boxAt, length-header, length-box}
+use Rattle.write_rules.proofs.Splitting.{boxAt}
+use Rattle.write_rules.proofs.Lengths.{length-header, length-box, length-signature, length-type}
 use Rattle.write_rules.proofs.Steps.{onward, file-box, stream-box}
 use Rattle.write_rules.proofs.Bounds.{Fit}
 use Rattle.write_rules.proofs.Header.{afterType, afterCdef, jp2h-read, children-most}
 
 -- the two boxes that are the same in every file
-signature-read : outer (boxAt 0x6a502020 0 (bytes 4 0x0d0a870a)) blank ≡ accepted (withState 1 blank)
+signature-read : outer (boxAt JP 0 (bytes 4 magic)) blank ≡ accepted (withState 1 blank)
 unfolding outer reading.signature table number bytes
 signature-read = refl
 
-type-read : outer (boxAt 0x66747970 12 (bytes 4 BR ++ bytes 4 MinV ++ bytes 4 CL)) (withState 1 blank) ≡ accepted afterType
+type-read : outer (boxAt FTYP 12 fileTypeContent) (withState 1 blank) ≡ accepted afterType
 unfolding outer typing.fileType table number bytes
 type-read = refl
 
-pub length-signature : length signature ≡ 12
-length-signature = length-box 0x6a502020 (bytes 4 0x0d0a870a) ∙ rw length-bytes refl
-
-pub length-type : length fileType ≡ 20
-length-type = length-box 0x66747970 (bytes 4 BR ++ bytes 4 MinV ++ bytes 4 CL) ∙ simp (length-append, length-bytes)
-
 -- the file, box by box
 abbrev pub whole : Request → List ℕ → List ℕ
-whole r stream = signature ++ (fileType ++ (jp2h r ++ (streamHeader r ++ stream)))
+whole r stream = signature ++ (fileType ++ (jp2h (r .components) (fieldsOf r) (r .profile) ++ (streamHeader (r .codestream) ++ stream)))
 
-pub front-is : (r : Request) (stream : List ℕ) → front r ++ stream ≡ whole r stream
+pub front-is : (r : Request) (stream : List ℕ) → front (r .components) (fieldsOf r) (r .profile) (r .codestream) ++ stream ≡ whole r stream
 unfolding front
 front-is r stream = simp append-assoc
 
@@ -58,11 +54,11 @@ abbrev pub found : Request → Jp2
 found r = let k = withHeaderBit (afterCdef r) in withState (withBit 8 (k .status .state)) k
 
 module _ (r : Request) (fit : Fit r) where
-  pub length-front : length (front r) ≡ 48 + length (jp2hContent r)
+  pub length-front : length (front (r .components) (fieldsOf r) (r .profile) (r .codestream)) ≡ 48 + length (jp2hContent (r .components) (fieldsOf r) (r .profile))
   unfolding front
   length-front = simp (length-append, length-signature, length-type, length-box, length-header) (omega arith)
 
-  header-read : outer (boxAt 0x6a703268 32 (jp2hContent r)) afterType ≡ accepted (withHeaderBit (afterCdef r))
+  header-read : outer (boxAt JP2H 32 (jp2hContent (r .components) (fieldsOf r) (r .profile))) afterType ≡ accepted (withHeaderBit (afterCdef r))
   unfolding outer
   header-read = sym (row 2 _ (omega arith) (sym (jp2h-read r fit)))
 
@@ -70,27 +66,27 @@ module _ (r : Request) (fit : Fit r) where
   unfolding withBit table
   headed e = omega arith
 
-  run-stream : (stream : List ℕ) (n at : ℕ) → length (streamHeader r ++ stream) ≤ n → run (split n at (streamHeader r ++ stream)) (withHeaderBit (afterCdef r)) ≡ codestream (at + 8) (found r)
+  run-stream : (stream : List ℕ) (n at : ℕ) → length (streamHeader (r .codestream) ++ stream) ≤ n → run (split n at (streamHeader (r .codestream) ++ stream)) (withHeaderBit (afterCdef r)) ≡ codestream (at + 8) (found r)
   run-stream stream n at h =
       let s = fit .codestream in
-      let l = length-append (streamHeader r) stream in
-      let e = length-header 0x6a703263 (r .codestream) in
+      let l = length-append (streamHeader (r .codestream)) stream in
+      let e = length-header JP2C (r .codestream) in
       stream-box (withHeaderBit (afterCdef r)) headed n at (r .codestream) stream (omega arith) (omega arith)
 
-  run-whole : (stream : List ℕ) (n : ℕ) → length (whole r stream) ≤ n → run (split n 0 (whole r stream)) blank ≡ codestream (40 + length (jp2hContent r) + 8) (found r)
+  run-whole : (stream : List ℕ) (n : ℕ) → length (whole r stream) ≤ n → run (split n 0 (whole r stream)) blank ≡ codestream (40 + length (jp2hContent (r .components) (fieldsOf r) (r .profile)) + 8) (found r)
   run-whole stream n h =
-      let s = streamHeader r ++ stream in
+      let s = streamHeader (r .codestream) ++ stream in
       let most = children-most r fit in
-      onward (file-box 0x6a502020 (bytes 4 0x0d0a870a) (fileType ++ (jp2h r ++ s)) (rw length-bytes (omega arith)) (omega arith) n 0 blank (withState 1 blank) (λ e. omega arith) h signature-read) 12 (omega (arith, length-signature))
+      onward (file-box JP (bytes 4 magic) (fileType ++ (jp2h (r .components) (fieldsOf r) (r .profile) ++ s)) (rw length-bytes (omega arith)) (omega arith) n 0 blank (withState 1 blank) (λ e. omega arith) h signature-read) 12 (omega (arith, length-signature))
       λ n h.
-      onward (file-box 0x66747970 (bytes 4 BR ++ bytes 4 MinV ++ bytes 4 CL) (jp2h r ++ s) (simp (length-append, length-bytes) (omega arith)) (omega arith) n 12 (withState 1 blank) afterType (λ e. omega arith) h type-read) 32 (omega (arith, length-type))
+      onward (file-box FTYP fileTypeContent (jp2h (r .components) (fieldsOf r) (r .profile) ++ s) (simp (length-append, length-bytes) (omega arith)) (omega arith) n 12 (withState 1 blank) afterType (λ e. omega arith) h type-read) 32 (omega (arith, length-type))
       λ n h.
-      onward (file-box 0x6a703268 (jp2hContent r) s (omega arith) (omega arith) n 32 afterType (withHeaderBit (afterCdef r)) (λ e. omega arith) h header-read) (40 + length (jp2hContent r)) (omega (arith, length-box 0x6a703268 (jp2hContent r)))
-      λ n h. run-stream stream n (40 + length (jp2hContent r)) h
+      onward (file-box JP2H (jp2hContent (r .components) (fieldsOf r) (r .profile)) s (omega arith) (omega arith) n 32 afterType (withHeaderBit (afterCdef r)) (λ e. omega arith) h header-read) (40 + length (jp2hContent (r .components) (fieldsOf r) (r .profile))) (omega (arith, length-box JP2H (jp2hContent (r .components) (fieldsOf r) (r .profile))))
+      λ n h. run-stream stream n (40 + length (jp2hContent (r .components) (fieldsOf r) (r .profile))) h
 
-  pub reads : (stream : List ℕ) → length (front r) + length stream ≤ 4294967295 → read (front r ++ stream) ≡ codestream (length (front r)) (found r)
+  pub reads : (stream : List ℕ) → length (front (r .components) (fieldsOf r) (r .profile) (r .codestream)) + length stream ≤ 4294967295 → read (front (r .components) (fieldsOf r) (r .profile) (r .codestream) ++ stream) ≡ codestream (length (front (r .components) (fieldsOf r) (r .profile) (r .codestream))) (found r)
   unfolding walk
   reads stream h =
-      let l = length-append (front r) stream in
-      let offset : 40 + length (jp2hContent r) + 8 ≡ length (front r) = omega (arith, length-front) in
+      let l = length-append (front (r .components) (fieldsOf r) (r .profile) (r .codestream)) stream in
+      let offset : 40 + length (jp2hContent (r .components) (fieldsOf r) (r .profile)) + 8 ≡ length (front (r .components) (fieldsOf r) (r .profile) (r .codestream)) = omega (arith, length-front) in
       sym (row 1 _ (omega arith) (rw (front-is r stream, ← offset) (sym (run-whole stream (length (whole r stream)) (omega arith)))))

@@ -3,13 +3,15 @@ use Prim.Native.Nat.{ℕ, zero, suc, _+_}
 use mathlib.Core.List.{List, [], _++_}
 use lib.ListN.{length}
 use Rattle.box_number.specs.Number.{bytes}
+use Rattle.box_kind.specs.Kind.{numberOf}
+use Rattle.box_kind.specs.declared.Jp2BoxType.{Jp2BoxType}
 
--- the header of a box whose content has so many bytes
-unfoldable pub boxHeader : ℕ → ℕ → List ℕ
-boxHeader type n = bytes 4 (8 + n) ++ bytes 4 type
+-- the header of a box whose content has n bytes
+unfoldable pub boxHeader : Jp2BoxType → ℕ → List ℕ
+boxHeader kind n = bytes 4 (8 + n) ++ bytes 4 (numberOf kind)
 
-unfoldable pub box : ℕ → List ℕ → List ℕ
-box type content = boxHeader type (length content) ++ content
+unfoldable pub box : Jp2BoxType → List ℕ → List ℕ
+box kind content = boxHeader kind (length content) ++ content
 
 -- the pieces 0, 1, .. up to the one before n, one after the other
 unfoldable pub series : (ℕ → List ℕ) → ℕ → List ℕ

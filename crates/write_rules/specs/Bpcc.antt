@@ -3,12 +3,14 @@ use Prim.Native.Nat.{ℕ}
 use mathlib.Core.List.{List, []}
 use Rattle.box_number.specs.Number.{bytes}
 use Rattle.box_number.specs.Table.{_≠?_, otherwise, _⇒_∣_, table}
+use Rattle.box_kind.specs.declared.Jp2BoxType.the-variants.{BPCC}
+use Rattle.write_rules.specs.declared.Fields.{Fields}
 use Rattle.write_rules.specs.Box.{box, series}
-use Rattle.write_rules.specs.Request.{Request}
-use Rattle.write_rules.specs.Setup.{NC, BPC, BPCi}
+use Rattle.write_rules.specs.Setup.{varies, BPCi}
 
-abbrev pub bpccContent : Request → List ℕ
-bpccContent r = series (λ c. bytes 1 (BPCi r c)) (NC r)
+-- of the first n components
+abbrev pub bpccContent : List ℕ → ℕ → List ℕ
+bpccContent comps n = series (λ c. bytes 1 (BPCi comps c)) n
 
-unfoldable pub bpcc : Request → List ℕ
-bpcc r = table (BPC r ≠? 255 ⇒ [] ∣ otherwise (box 0x62706363 (bpccContent r)))
+unfoldable pub bpcc : List ℕ → Fields → List ℕ
+bpcc comps s = table (s .bpc ≠? varies ⇒ [] ∣ otherwise (box BPCC (bpccContent comps (s .numcomps))))

@@ -8,11 +8,11 @@ use Rattle.box_number.specs.Table.{table}
 use Rattle.box_number.specs.Lowest.{lowest}
 use Rattle.write_rules.specs.Request.{Request}
 use Rattle.write_rules.specs.Box.{boxHeader, box, series}
-use Rattle.write_rules.specs.Setup.{wrapping, BPCi, BPC, METH, EnumCS, colours, marks, N, definition}
+use Rattle.write_rules.specs.Setup.{wrapping, BPCi, BPC, METH, EnumCS, colours, marks, N, definition, setUp}
 use Rattle.write_rules.specs.Bpcc.{bpcc}
 use Rattle.write_rules.specs.Colr.{specification}
 use Rattle.write_rules.specs.Cdef.{cdef}
-use Rattle.write_rules.specs.Writing.{Writing, written, declined, front, write}
+use Rattle.write_rules.specs.Writing.{Writing, written, declined, front, writeFields, write}
 
 -- a component of so many bits, with a sign and a mark
 abbrev pub comp : ℕ → ℕ → ℕ → List ℕ
@@ -90,7 +90,7 @@ abbrev pub plain : ℕ → List ℕ
 plain zero = []
 plain (suc n) = comp 8 0 0 ++ plain n
 
--- a table of requests and what each is to come to
+-- a table of requests and the expected result of each
 infixr 20 _gives_∣_
 pub data Cases : Type 0 where
   end : Cases
@@ -137,16 +137,16 @@ cases =
     picture (comp 8 0 0) 1 2 4261412864 0 gives declined 34 0 ∣
     end
 
-abbrev pub come : Cases → List Writing
-come end = []
-come (r gives w ∣ rest) = write r ∷ come rest
+abbrev pub results : Cases → List Writing
+results end = []
+results (r gives w ∣ rest) = write r ∷ results rest
 
-abbrev pub told : Cases → List Writing
-told end = []
-told (r gives w ∣ rest) = w ∷ told rest
+abbrev pub expected : Cases → List Writing
+expected end = []
+expected (r gives w ∣ rest) = w ∷ expected rest
 
-pub marked : come cases ≡ told cases
-unfolding table lowest bytes boxHeader box series wrapping BPCi BPC METH EnumCS colours marks N definition bpcc specification cdef front write
+pub marked : results cases ≡ expected cases
+unfolding table lowest bytes boxHeader box series wrapping BPCi BPC METH EnumCS colours marks N definition bpcc specification cdef front setUp writeFields write
 marked = refl
 
 -- 77 and 85

@@ -3,17 +3,22 @@ use Prim.Native.Nat.{ℕ}
 use mathlib.Core.List.{List, [], _++_}
 use Rattle.box_number.specs.Number.{bytes}
 use Rattle.box_number.specs.Table.{_=?_, otherwise, _⇒_∣_, table}
+use Rattle.box_kind.specs.declared.Jp2BoxType.the-variants.{CDEF}
 use Rattle.read_channels.specs.Definitions.{Def}
+use Rattle.write_rules.specs.declared.Fields.{Fields}
 use Rattle.write_rules.specs.Box.{box, series}
-use Rattle.write_rules.specs.Request.{Request}
-use Rattle.write_rules.specs.Setup.{N, definition}
+use Rattle.write_rules.specs.Setup.{definition}
 
 -- Cn, Typ and Asoc
-abbrev pub fields : Def → List ℕ
-fields d = bytes 2 (d .channel) ++ bytes 2 (d .typ) ++ bytes 2 (d .asoc)
+abbrev pub definitionBytes : Def → List ℕ
+definitionBytes d = bytes 2 (d .channel) ++ bytes 2 (d .typ) ++ bytes 2 (d .asoc)
 
-abbrev pub cdefContent : Request → List ℕ
-cdefContent r = bytes 2 (N r) ++ series (λ c. fields (definition r c)) (N r)
+-- the first n definitions
+abbrev pub definitions : List ℕ → ℕ → ℕ → List ℕ
+definitions comps many n = series (λ c. definitionBytes (definition comps many c)) n
 
-unfoldable pub cdef : Request → List ℕ
-cdef r = table (N r =? 0 ⇒ [] ∣ otherwise (box 0x63646566 (cdefContent r)))
+abbrev pub cdefContent : List ℕ → Fields → List ℕ
+cdefContent comps s = bytes 2 (s .definitions) ++ definitions comps (s .colours) (s .definitions)
+
+unfoldable pub cdef : List ℕ → Fields → List ℕ
+cdef comps s = table (s .definitions =? 0 ⇒ [] ∣ otherwise (box CDEF (cdefContent comps s)))

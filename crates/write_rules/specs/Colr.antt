@@ -3,16 +3,17 @@ use Prim.Native.Nat.{ℕ}
 use mathlib.Core.List.{List, _++_}
 use Rattle.box_number.specs.Number.{bytes}
 use Rattle.box_number.specs.Table.{_=?_, otherwise, _⇒_∣_, table}
+use Rattle.box_kind.specs.declared.Jp2BoxType.the-variants.{COLR}
+use Rattle.write_rules.specs.declared.Fields.{Fields}
 use Rattle.write_rules.specs.Box.{box}
-use Rattle.write_rules.specs.Request.{Request}
-use Rattle.write_rules.specs.Setup.{METH, PREC, APPROX, EnumCS}
+use Rattle.write_rules.specs.Setup.{PREC, APPROX}
 
 -- what METH asks for
-unfoldable pub specification : Request → List ℕ
-specification r = table (METH r =? 1 ⇒ bytes 4 (EnumCS r) ∣ otherwise (r .profile))
+unfoldable pub specification : Fields → List ℕ → List ℕ
+specification s profile = table (s .meth =? 1 ⇒ bytes 4 (s .enumcs) ∣ otherwise profile)
 
-abbrev pub colrContent : Request → List ℕ
-colrContent r = bytes 1 (METH r) ++ bytes 1 PREC ++ bytes 1 APPROX ++ specification r
+abbrev pub colrContent : Fields → List ℕ → List ℕ
+colrContent s profile = bytes 1 (s .meth) ++ bytes 1 PREC ++ bytes 1 APPROX ++ specification s profile
 
-abbrev pub colr : Request → List ℕ
-colr r = box 0x636f6c72 (colrContent r)
+abbrev pub colr : Fields → List ℕ → List ℕ
+colr s profile = box COLR (colrContent s profile)

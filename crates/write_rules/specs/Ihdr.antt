@@ -2,12 +2,13 @@
 use Prim.Native.Nat.{ℕ}
 use mathlib.Core.List.{List, _++_}
 use Rattle.box_number.specs.Number.{bytes}
+use Rattle.box_kind.specs.declared.Jp2BoxType.the-variants.{IHDR}
+use Rattle.write_rules.specs.declared.Fields.{Fields}
 use Rattle.write_rules.specs.Box.{box}
-use Rattle.write_rules.specs.Request.{Request}
-use Rattle.write_rules.specs.Setup.{HEIGHT, WIDTH, NC, BPC, C, UnkC, IPR}
+use Rattle.write_rules.specs.Setup.{C, UnkC, IPR}
 
-abbrev pub ihdrContent : Request → List ℕ
-ihdrContent r = bytes 4 (HEIGHT r) ++ bytes 4 (WIDTH r) ++ bytes 2 (NC r) ++ bytes 1 (BPC r) ++ bytes 1 C ++ bytes 1 UnkC ++ bytes 1 IPR
+abbrev pub ihdrContent : Fields → List ℕ
+ihdrContent s = bytes 4 (s .h) ++ bytes 4 (s .w) ++ bytes 2 (s .numcomps) ++ bytes 1 (s .bpc) ++ bytes 1 C ++ bytes 1 UnkC ++ bytes 1 IPR
 
-abbrev pub ihdr : Request → List ℕ
-ihdr r = box 0x69686472 (ihdrContent r)
+abbrev pub ihdr : Fields → List ℕ
+ihdr s = box IHDR (ihdrContent s)

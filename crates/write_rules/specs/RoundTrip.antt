@@ -11,16 +11,17 @@ use Rattle.read_file.specs.File.{codestream, read}
 use Rattle.read_rules.specs.Free.{profile}
 use Rattle.read_channels.specs.Definitions as order
 use Rattle.write_rules.specs.Request.{Request, precision}
-use Rattle.write_rules.specs.Setup.{BR, MinV, CL, HEIGHT, WIDTH, NC, BPCi, BPC, C, UnkC, IPR, METH, PREC, APPROX, EnumCS, N, definition}
+use Rattle.write_rules.specs.Setup.{varies, BPCi, C, UnkC, IPR, PREC, APPROX, definition, fieldsOf}
+use Rattle.write_rules.specs.FileType.{BR, MinV, CL}
 use Rattle.write_rules.specs.Writing.{written, write}
 
--- how many components bpcc tells of: all, where it is there
-unfoldable pub told : Request → ℕ
-told r = table (BPC r ≠? 255 ⇒ 0 ∣ otherwise (NC r))
+-- the count of bytes in bpcc: one for each component, where it is there
+unfoldable pub depthCount : Request → ℕ
+depthCount r = table (fieldsOf r .bpc ≠? varies ⇒ 0 ∣ otherwise (r .count))
 
--- of a file f that was read to a record m, the byte that tells of component c: the one in bpcc where bpc is 255, else bpc
-unfoldable pub toldOf : List ℕ → Jp2 → ℕ → ℕ
-toldOf f m c = table (m .image .bpc =? 255 ⇒ image.BPCi f (m .lists .bpcc) c ∣ otherwise (m .image .bpc))
+-- of a file f that was read to a record m, the byte for component c: the one in bpcc where bpc is 255, else bpc
+unfoldable pub depthByte : List ℕ → Jp2 → ℕ → ℕ
+depthByte f m c = table (m .image .bpc =? varies ⇒ image.BPCi f (m .lists .bpcc) c ∣ otherwise (m .image .bpc))
 
 -- of a file f that was written for r and read to a record m
 pub record ReadBack (r : Request) (f : List ℕ) (m : Jp2) : Type 0 where
@@ -30,29 +31,29 @@ pub record ReadBack (r : Request) (f : List ℕ) (m : Jp2) : Type 0 where
   pub compatible : m .lists .cl .count ≡ 1
   pub entry : signature.CL f (m .lists .cl) 0 ≡ CL
   -- size, count, bpc, C, UnkC and IPR
-  pub height : m .image .h ≡ HEIGHT r
-  pub width : m .image .w ≡ WIDTH r
-  pub count : m .image .numcomps ≡ NC r
-  pub bpc : m .image .bpc ≡ BPC r
+  pub height : m .image .h ≡ fieldsOf r .h
+  pub width : m .image .w ≡ fieldsOf r .w
+  pub count : m .image .numcomps ≡ r .count
+  pub bpc : m .image .bpc ≡ fieldsOf r .bpc
   pub c : m .image .c ≡ C
   pub unkc : m .image .unkc ≡ UnkC
   pub ipr : m .image .ipr ≡ IPR
   -- bits per component
-  pub depths : m .lists .bpcc .count ≡ told r
-  pub depth : (i : ℕ) → i < told r → image.BPCi f (m .lists .bpcc) i ≡ BPCi r i
-  -- and so the precision of each component; signs that differ are told by bpcc alone (difference 23)
-  pub precise : (c : ℕ) → c < NC r → toldOf f m c % 128 + 1 ≡ precision r c
+  pub depths : m .lists .bpcc .count ≡ depthCount r
+  pub depth : (i : ℕ) → i < depthCount r → image.BPCi f (m .lists .bpcc) i ≡ BPCi (r .components) i
+  -- and so the precision of each component; signs that differ are in bpcc alone (difference 23)
+  pub precise : (c : ℕ) → c < r .count → depthByte f m c % 128 + 1 ≡ precision (r .components) c
   -- method, precedence, approximation, enumerated space and profile
   pub held : m .colour .held ≡ 1
-  pub method : m .colour .meth ≡ METH r
+  pub method : m .colour .meth ≡ fieldsOf r .meth
   pub precedence : m .colour .precedence ≡ PREC
   pub approximation : m .colour .approx ≡ APPROX
-  pub space : m .colour .enumcs ≡ EnumCS r
+  pub space : m .colour .enumcs ≡ fieldsOf r .enumcs
   pub lab : m .colour .lab .count ≡ 0
   pub profile : profile f m ≡ r .profile
   -- definitions
-  pub definitions : m .lists .cdef .count ≡ N r
-  pub definition : (i : ℕ) → i < N r → order.definition f (m .lists .cdef) i ≡ definition r i
+  pub definitions : m .lists .cdef .count ≡ fieldsOf r .definitions
+  pub definition : (i : ℕ) → i < fieldsOf r .definitions → order.definition f (m .lists .cdef) i ≡ definition (r .components) (fieldsOf r .colours) i
   -- no palette, and no mapping
   pub palette : m .lists .pclr .columns ≡ 0
   pub mappings : m .lists .cmap .count ≡ 0

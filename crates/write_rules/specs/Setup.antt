@@ -1,20 +1,14 @@
--- What `opj_jp2_setup_encoder` makes of a request: every field of every box, under the standard's names.
+-- What `opj_jp2_setup_encoder` makes of a request: every field of every box, under the standard's names, or 31, 29 or 32.
 use Prim.Native.Nat.{ℕ, zero, suc, _+_, _-_, _*_, _%_}
+use mathlib.Core.List.{List}
 use lib.ListN.{length}
-use Rattle.box_number.specs.Table.{_=?_, _≠?_, _<?_, _or_, otherwise, _⇒_∣_, table}
+use Rattle.box_number.specs.Table.{Test, _=?_, _≠?_, _<?_, _or_, otherwise, _⇒_∣_, table}
 use Rattle.read_channels.specs.Definitions.{Def, def}
 use Rattle.box_number.specs.Lowest.{lowest, some}
+use Rattle.write_rules.specs.declared.Fields.{Fields}
+use Rattle.write_rules.specs.declared.Encoder.{Encoder}
+use Rattle.write_rules.specs.declared.Encoder.the-variants.{Ready, Refused}
 use Rattle.write_rules.specs.Request.{Request, precision, sign, mark}
-
--- I.5.2: brand and version of the standard, and the one entry of the compatibility list, 'jp2 '
-abbrev pub BR : ℕ
-BR = 0x6a703220
-
-abbrev pub MinV : ℕ
-MinV = 0
-
-abbrev pub CL : ℕ
-CL = 0x6a703220
 
 -- a minus b, wrapping at 2^32
 unfoldable pub wrapping : ℕ → ℕ → ℕ
@@ -27,16 +21,21 @@ HEIGHT r = wrapping (r .y1) (r .y0)
 abbrev pub WIDTH : Request → ℕ
 WIDTH r = wrapping (r .x1) (r .x0)
 
-abbrev pub NC : Request → ℕ
-NC r = r .count
-
 -- I.5.3.2: of component c, its bits less 1, and its sign as the top bit; a precision of 0 is refused (32)
-unfoldable pub BPCi : Request → ℕ → ℕ
-BPCi r c = precision r c - 1 + 128 * sign r c
+unfoldable pub BPCi : List ℕ → ℕ → ℕ
+BPCi comps c = precision comps c - 1 + 128 * sign comps c
 
--- I.5.3.1: what all components have, or 255 where they have not the same number of bits. Difference 23: signs that differ are not looked at.
-unfoldable pub BPC : Request → ℕ
-BPC r = table (some (λ c. precision r c ≠? precision r 0) (r .count) ⇒ 255 ∣ otherwise (BPCi r 0))
+-- BPC where the components have not the same number of bits: a bpcc follows
+abbrev pub varies : ℕ
+varies = 255
+
+-- the bits of component c are not those of component 0
+abbrev pub other : List ℕ → ℕ → Test
+other comps c = precision comps c ≠? precision comps 0
+
+-- I.5.3.1: what all components have, or 255. Difference 23: signs that differ are not looked at.
+unfoldable pub BPC : List ℕ → ℕ → ℕ
+BPC comps count = table (some (other comps) count ⇒ varies ∣ otherwise (BPCi comps 0))
 
 -- the compression is JPEG 2000's
 abbrev pub C : ℕ
@@ -50,8 +49,8 @@ abbrev pub IPR : ℕ
 IPR = 0
 
 -- I.5.3.3: 2 where there is a profile, 1 for an enumerated colour space
-unfoldable pub METH : Request → ℕ
-METH r = table (length (r .profile) =? 0 ⇒ 1 ∣ otherwise 2)
+unfoldable pub METH : List ℕ → ℕ
+METH profile = table (length profile =? 0 ⇒ 1 ∣ otherwise 2)
 
 -- both are 0 in every file
 abbrev pub PREC : ℕ
@@ -61,42 +60,80 @@ abbrev pub APPROX : ℕ
 APPROX = 0
 
 -- sRGB, greyscale, sYCC, whatever the count (difference 29); 0 with a profile, and for any other colour space (difference 24)
-unfoldable pub EnumCS : Request → ℕ
-EnumCS r =
+unfoldable pub EnumCS : ℕ → ℕ → ℕ
+EnumCS meth space =
     table
-    (METH r =? 2 ⇒ 0
-    ∣ r .space =? 1 ⇒ 16
-    ∣ r .space =? 2 ⇒ 17
-    ∣ r .space =? 3 ⇒ 18
+    (meth =? 2 ⇒ 0
+    ∣ space =? 1 ⇒ 16
+    ∣ space =? 2 ⇒ 17
+    ∣ space =? 3 ⇒ 18
     ∣ otherwise 0)
 
--- how many colours an enumerated colour space has, 0 where it is not known
-unfoldable pub colours : Request → ℕ
-colours r = table (EnumCS r =? 16 or EnumCS r =? 18 ⇒ 3 ∣ EnumCS r =? 17 ⇒ 1 ∣ otherwise 0)
+-- the count of colours of an enumerated colour space, 0 where it is not known
+unfoldable pub colours : ℕ → ℕ
+colours enumcs = table (enumcs =? 16 or enumcs =? 18 ⇒ 3 ∣ enumcs =? 17 ⇒ 1 ∣ otherwise 0)
 
--- how many of the first n components are marked
-unfoldable pub marks : Request → ℕ → ℕ
-marks r zero = 0
-marks r (suc n) = table (mark r n ≠? 0 ⇒ suc (marks r n) ∣ otherwise (marks r n))
+-- the count of marked components among the first n
+unfoldable pub marks : List ℕ → ℕ → ℕ
+marks comps zero = 0
+marks comps (suc n) = table (mark comps n ≠? 0 ⇒ suc (marks comps n) ∣ otherwise (marks comps n))
 
 -- the first component that is marked
-abbrev pub opacity : Request → ℕ
-opacity r = lowest (λ c. mark r c ≠? 0) (r .count)
+abbrev pub opacity : List ℕ → ℕ → ℕ
+opacity comps count = lowest (λ c. mark comps c ≠? 0) count
 
--- I.5.3.6: how many definitions there are. Where exactly one component is marked, the colours are known and it is none of them, all components are defined; else none is, and there
--- is no box (difference 26).
-unfoldable pub N : Request → ℕ
-N r =
+-- I.5.3.6: the count of definitions. Where exactly one component is marked, the colours are known and it is none of them, all components are defined; else none is, and there is no box
+-- (difference 26).
+unfoldable pub N : List ℕ → ℕ → ℕ → ℕ
+N comps count many =
     table
-    (marks r (r .count) ≠? 1 ⇒ 0
-    ∣ colours r =? 0 ⇒ 0
-    ∣ opacity r <? colours r ⇒ 0
-    ∣ otherwise (r .count))
+    (marks comps count ≠? 1 ⇒ 0
+    ∣ many =? 0 ⇒ 0
+    ∣ opacity comps count <? many ⇒ 0
+    ∣ otherwise count)
 
 -- definition c, of channel c: colour c + 1; the opacity of the whole picture, whatever the mark (difference 27); or a channel of which nothing is said
-unfoldable pub definition : Request → ℕ → Def
-definition r c =
+unfoldable pub definition : List ℕ → ℕ → ℕ → Def
+definition comps many c =
     table
-    (c <? colours r ⇒ def c 0 (c + 1)
-    ∣ mark r c ≠? 0 ⇒ def c 1 0
+    (c <? many ⇒ def c 0 (c + 1)
+    ∣ mark comps c ≠? 0 ⇒ def c 1 0
     ∣ otherwise (def c 65535 65535))
+
+-- the fields of a request
+abbrev pub fieldsOf : Request → Fields
+fieldsOf r =
+    let meth = METH (r .profile) in
+    let enumcs = EnumCS meth (r .space) in
+    let many = colours enumcs in
+    record {
+      h = HEIGHT r;
+      w = WIDTH r;
+      numcomps = r .count;
+      bpc = BPC (r .components) (r .count);
+      meth = meth;
+      enumcs = enumcs;
+      colours = many;
+      definitions = N (r .components) (r .count) many;
+    }
+
+-- a JP2 file has at most 16384 components, of at most 38 bits
+abbrev pub mostComponents : ℕ
+mostComponents = 16384
+
+abbrev pub mostBits : ℕ
+mostBits = 38
+
+-- 32: a precision that is not 1 to 38, or a sign that is not 0 or 1
+abbrev pub ill : List ℕ → ℕ → Test
+ill comps c = precision comps c =? 0 or mostBits <? precision comps c or 1 <? sign comps c
+
+-- numbers 31, 29 and 32, in that order, or the fields
+unfoldable pub setUp : Request → Encoder
+setUp r =
+    let wrong = lowest (ill (r .components)) (r .count) in
+    table
+    (r .count =? 0 or mostComponents <? r .count ⇒ Refused 31 0
+    ∣ length (r .components) <? 13 * r .count ⇒ Refused 29 0
+    ∣ wrong <? r .count ⇒ Refused 32 wrong
+    ∣ otherwise (Ready (fieldsOf r)))

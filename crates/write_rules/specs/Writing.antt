@@ -1,12 +1,14 @@
--- Writing all boxes before a codestream, and its header: numbers 31, 29, 32, 33, 34 and 30, in that order, or the bytes.
-use Prim.Native.Nat.{ℕ, _*_}
+-- Writing all boxes before a codestream, and its header: a request is set up (31, 29 and 32), and its fields are written (33, 34 and 30).
+use Prim.Native.Nat.{ℕ}
 use mathlib.Core.List.{List, _++_}
 use lib.ListN.{length}
 use Rattle.box_number.specs.Number.{placed}
-use Rattle.box_number.specs.Table.{Test, _=?_, _<?_, _or_, otherwise, _⇒_∣_, table}
-use Rattle.box_number.specs.Lowest.{lowest}
-use Rattle.write_rules.specs.Request.{Request, precision, sign}
-use Rattle.write_rules.specs.Setup.{HEIGHT, WIDTH}
+use Rattle.box_number.specs.Table.{_=?_, _<?_, _or_, otherwise, _⇒_∣_, table}
+use Rattle.write_rules.specs.declared.Fields.{Fields}
+use Rattle.write_rules.specs.declared.Encoder.{Encoder}
+use Rattle.write_rules.specs.declared.Encoder.the-variants.{Ready, Refused}
+use Rattle.write_rules.specs.Request.{Request}
+use Rattle.write_rules.specs.Setup.{setUp}
 use Rattle.write_rules.specs.Signature.{signature}
 use Rattle.write_rules.specs.FileType.{fileType}
 use Rattle.write_rules.specs.Jp2h.{jp2h}
@@ -17,26 +19,34 @@ pub data Writing : Type 0 where
   written : List ℕ → Writing
   declined : ℕ → ℕ → Writing
 
--- 32: a precision that is not 1 to 38, or a sign that is not 0 or 1
-abbrev pub ill : Request → ℕ → Test
-ill r c = precision r c =? 0 or 38 <? precision r c or 1 <? sign r c
+-- all bytes before the codestream
+unfoldable pub front : List ℕ → Fields → List ℕ → ℕ → List ℕ
+front comps s profile codestream = signature ++ fileType ++ jp2h comps s profile ++ streamHeader codestream
 
--- all that stands before the codestream
-unfoldable pub front : Request → List ℕ
-front r = signature ++ fileType ++ jp2h r ++ streamHeader r
+-- 2^24 - 1, and 2^32 - 1 less 2^25: so the file has at most 2^32 - 1 bytes
+abbrev pub mostProfile : ℕ
+mostProfile = 16777215
+
+abbrev pub mostCodestream : ℕ
+mostCodestream = 4261412863
+
+-- fields to bytes: numbers 33, 34 and 30, in that order, or the bytes
+unfoldable pub writeFields : List ℕ → Fields → List ℕ → ℕ → ℕ → Writing
+writeFields comps s profile codestream room =
+    let bytes = front comps s profile codestream in
+    table
+    (s .h =? 0 or s .w =? 0 ⇒ declined 33 0
+    ∣ mostProfile <? length profile or mostCodestream <? codestream ⇒ declined 34 0
+    ∣ room <? length bytes ⇒ declined 30 (length bytes)
+    ∣ otherwise (written bytes))
+
+-- what is written after setting up
+abbrev pub afterSetUp : Request → Encoder → Writing
+afterSetUp r (Ready s) = writeFields (r .components) s (r .profile) (r .codestream) (r .room)
+afterSetUp r (Refused number index) = declined number index
 
 unfoldable pub write : Request → Writing
-write r =
-    let wrong = lowest (ill r) (r .count) in
-    let needed = length (front r) in
-    table
-    (r .count =? 0 or 16384 <? r .count ⇒ declined 31 0
-    ∣ length (r .components) <? 13 * r .count ⇒ declined 29 0
-    ∣ wrong <? r .count ⇒ declined 32 wrong
-    ∣ HEIGHT r =? 0 or WIDTH r =? 0 ⇒ declined 33 0
-    ∣ 16777215 <? length (r .profile) or 4261412863 <? r .codestream ⇒ declined 34 0
-    ∣ r .room <? needed ⇒ declined 30 needed
-    ∣ otherwise (written (front r)))
+write r = afterSetUp r (setUp r)
 
 -- the destination afterwards: the bytes from its start on, and the rest as it was; a refusal leaves it
 unfoldable pub destination : List ℕ → Writing → List ℕ

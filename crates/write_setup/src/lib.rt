@@ -4,39 +4,28 @@ ghost use mathlib.Core.Bool.{false};
 ghost use Rattle.box_number.specs.Table.{_≠?_, otherwise, _⇒_∣_, holds, table};
 ghost use Rattle.box_number.proofs.Rows.{Says};
 ghost use Rattle.box_number.specs.Lowest.{lowest};
-ghost use Rattle.write_rules.specs.Request.{mark};
-ghost use Rattle.write_rules.specs.Setup.{marks};
-ghost use Rattle.write_rules.specs.Writing.{ill};
-ghost use Rattle.write_setup.specs.Encoder.{request, setUp};
-ghost use Rattle.write_setup.specs.Parts.{listed, other, bpcOf, methodOf, enumcsOf, coloursOf, opacityOf, countOf};
+ghost use Rattle.write_rules.specs.Request.{asked, mark};
+ghost use Rattle.write_rules.specs.Setup.{other, BPC, METH, EnumCS, colours, marks, opacity, N, ill, setUp};
+use write_rules::Encoder;
+use write_rules::Fields;
 
-// The fields of the boxes that are not the same in every file; colours is how many colours the colour space has, and definitions how many cdef holds, 0 where there is none.
-pub struct Fields {
-    pub h: u32,
-    pub w: u32,
-    pub numcomps: u32,
-    pub bpc: u32,
-    pub meth: u32,
-    pub enumcs: u32,
-    pub colours: u32,
-    pub definitions: u32,
-}
+// The limits of a JP2 file.
+const MOST_COMPONENTS: u32 = 16384;
 
-// The fields, or document 01's number and the index.
-pub enum Encoder {
-    Ready(Fields),
-    Refused(u32, u32),
-}
+const MOST_BITS: u32 = 38;
+
+// The value of bpc where the components have not the same number of bits.
+const VARIES: u32 = 255;
 
 // Whether component c has a precision that is not 1 to 38, or a sign that is not 0 or 1.
 fn is_ill(comps: &[u32], c: u32) -> bool
-    ensures { λ r. ⌜ r ≡ holds (ill (listed (now (comps .entry))) c) ⌝ }
+    ensures { λ r. ⌜ r ≡ holds (ill (now (comps .entry)) c) ⌝ }
 {
     let precision = read_record::component(comps, c, 6);
     if precision == 0 {
         return true;
     }
-    if 38 < precision {
+    if MOST_BITS < precision {
         return true;
     }
     1 < read_record::component(comps, c, 8)
@@ -44,7 +33,7 @@ fn is_ill(comps: &[u32], c: u32) -> bool
 
 // The first such component; the count where there is none.
 fn first_ill(comps: &[u32], count: u32) -> u32
-    ensures { λ r. ⌜ r ≡ lowest (ill (listed (now (comps .entry)))) count ⌝ }
+    ensures { λ r. ⌜ r ≡ lowest (ill (now (comps .entry))) count ⌝ }
 {
     let mut c: u32 = 0;
     while c < count {
@@ -58,7 +47,7 @@ fn first_ill(comps: &[u32], count: u32) -> u32
 
 // The first component that has not as many bits as component 0; the count where there is none.
 fn first_other(comps: &[u32], count: u32) -> u32
-    ensures { λ r. ⌜ r ≡ lowest (other (listed (now (comps .entry)))) count ⌝ }
+    ensures { λ r. ⌜ r ≡ lowest (other (now (comps .entry))) count ⌝ }
 {
     let bits = read_record::component(comps, 0, 6);
     let mut c: u32 = 0;
@@ -73,18 +62,18 @@ fn first_other(comps: &[u32], count: u32) -> u32
 
 // What all components have, bits less 1 and the sign as top bit, or 255.
 fn bits(comps: &[u32], count: u32) -> u32
-    requires { ⌜ Says false (ill (listed (now comps)) 0) ⌝ }
-    ensures { λ r. ⌜ r ≡ bpcOf (now (comps .entry)) count ⌝ }
+    requires { ⌜ Says false (ill (now comps) 0) ⌝ }
+    ensures { λ r. ⌜ r ≡ BPC (now (comps .entry)) count ⌝ }
 {
     if first_other(comps, count) < count {
-        return 255;
+        return VARIES;
     }
     read_record::component(comps, 0, 6) - 1 + 128 * read_record::component(comps, 0, 8)
 }
 
 // 2 where there is a profile, 1 for an enumerated colour space.
 fn method(profile: &[u8]) -> u32
-    ensures { λ r. ⌜ r ≡ methodOf (now (profile .entry)) ⌝ }
+    ensures { λ r. ⌜ r ≡ METH (now (profile .entry)) ⌝ }
 {
     if profile.len() == 0 {
         return 1;
@@ -94,7 +83,7 @@ fn method(profile: &[u8]) -> u32
 
 // The enumerated colour space: sRGB, greyscale or sYCC; 0 with a profile, and where it is another.
 fn enumerated(meth: u32, space: u32) -> u32
-    ensures { λ r. ⌜ r ≡ enumcsOf meth space ⌝ }
+    ensures { λ r. ⌜ r ≡ EnumCS meth space ⌝ }
 {
     if meth == 2 {
         return 0;
@@ -109,7 +98,7 @@ fn enumerated(meth: u32, space: u32) -> u32
 
 // How many colours an enumerated colour space has.
 fn colour_count(enumcs: u32) -> u32
-    ensures { λ r. ⌜ r ≡ coloursOf enumcs ⌝ }
+    ensures { λ r. ⌜ r ≡ colours enumcs ⌝ }
 {
     match enumcs {
         16 => 3,
@@ -121,7 +110,7 @@ fn colour_count(enumcs: u32) -> u32
 
 // How many components are marked.
 fn mark_count(comps: &[u32], count: u32) -> u32
-    ensures { λ r. ⌜ r ≡ marks (listed (now (comps .entry))) count ⌝ }
+    ensures { λ r. ⌜ r ≡ marks (now (comps .entry)) count ⌝ }
 {
     let mut marked: u32 = 0;
     let mut c: u32 = 0;
@@ -134,7 +123,7 @@ fn mark_count(comps: &[u32], count: u32) -> u32
 
 // 1 where component c is marked, else 0.
 fn is_marked(comps: &[u32], c: u32) -> u32
-    ensures { λ r. ⌜ r ≡ table (mark (listed (now (comps .entry))) c ≠? 0 ⇒ 1 ∣ otherwise 0) ⌝ }
+    ensures { λ r. ⌜ r ≡ table (mark (now (comps .entry)) c ≠? 0 ⇒ 1 ∣ otherwise 0) ⌝ }
 {
     if read_record::component(comps, c, 12) != 0 {
         return 1;
@@ -144,7 +133,7 @@ fn is_marked(comps: &[u32], c: u32) -> u32
 
 // The first component that is marked; the count where none is.
 fn first_marked(comps: &[u32], count: u32) -> u32
-    ensures { λ r. ⌜ r ≡ opacityOf (now (comps .entry)) count ⌝ }
+    ensures { λ r. ⌜ r ≡ opacity (now (comps .entry)) count ⌝ }
 {
     let mut c: u32 = 0;
     while c < count {
@@ -158,7 +147,7 @@ fn first_marked(comps: &[u32], count: u32) -> u32
 
 // How many definitions cdef holds: all components are defined where exactly one is marked, and it comes after the colours.
 fn definition_count(comps: &[u32], count: u32, colours: u32) -> u32
-    ensures { λ r. ⌜ r ≡ countOf (now (comps .entry)) count colours ⌝ }
+    ensures { λ r. ⌜ r ≡ N (now (comps .entry)) count colours ⌝ }
 {
     if mark_count(comps, count) != 1 {
         return 0;
@@ -172,7 +161,7 @@ fn definition_count(comps: &[u32], count: u32, colours: u32) -> u32
     count
 }
 
-// Sets up the fields of the boxes; the components are 13 numbers each, as many as count says.
+// Sets up the fields of the boxes; comps holds count components of 13 numbers each. The codestream's length and the room for the boxes are not used here, so the contract has 0 for both.
 pub fn opj_jp2_setup_encoder(
     comps: &[u32],
     count: u32,
@@ -183,12 +172,12 @@ pub fn opj_jp2_setup_encoder(
     space: u32,
     profile: &[u8],
 ) -> Encoder
-    ensures { λ r. ⌜ r ≡ setUp (request (now (comps .entry)) count x0 y0 x1 y1 space (now (profile .entry))) ⌝ }
+    ensures { λ r. ⌜ r ≡ setUp (asked (now (comps .entry)) count x0 y0 x1 y1 space (now (profile .entry)) 0 0) ⌝ }
 {
     if count == 0 {
         return Encoder::Refused(31, 0);
     }
-    if 16384 < count {
+    if MOST_COMPONENTS < count {
         return Encoder::Refused(31, 0);
     }
     if comps.len() < 13 * count as usize {

@@ -3,7 +3,7 @@
 use native.Mathlib.Omega.{arith}
 use mathlib.Core.Path.{refl}
 use Rattle.box_number.proofs.Rows.{row}
-use Rattle.write_boxes.specs.Parts.{colrLength}
+use Rattle.write_boxes.specs.Private.Lengths.{colrLength}
 use borrow.Author.Needs.{needs}
 use Rattle.write_boxes.proofs.colr_length.Statement.{statement}
 use Rattle.write_boxes.proofs.colr_length.Tie as tie

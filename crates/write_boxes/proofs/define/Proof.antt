@@ -4,9 +4,9 @@ use native.Mathlib.Omega.{arith}
 use mathlib.Core.Path.{refl}
 use mathlib.Core.Path.{ap, _∙_}
 use Rattle.box_number.proofs.Rows.{row}
-use Rattle.write_rules.specs.Cdef as cdef
 use Rattle.box_number.specs.Number.{placed}
-use Rattle.write_boxes.specs.Parts.{definitionOf}
+use Rattle.write_rules.specs.Setup.{definition}
+use Rattle.write_rules.specs.Cdef.{definitionBytes}
 use borrow.Author.Needs.{needs}
 use Rattle.write_boxes.proofs.define.Statement.{statement}
 use Rattle.write_boxes.proofs.define.Tie as tie
@@ -21,11 +21,11 @@ same-length : tie.Need-same-length
 same-length c = search needs
 
 returns : tie.Need-returns
-unfolding definitionOf
+unfolding definition
 returns c =
     let a = c .before .before .before .before .before .before .before .args in
     let e = c .before .before .put-definition .ensures in
-    (e .0, e .1 ∙ ap (λ x. placed (a .d .now) (a .at) (cdef.fields x)) (row 0 _ (omega arith) refl))
+    (e .0, e .1 ∙ ap (λ x. placed (a .d .now) (a .at) (definitionBytes x)) (row 0 _ (omega arith) refl))
 
 component-requires : tie.Need-component-requires
 component-requires c κs = tt
@@ -37,11 +37,11 @@ same-length-2 : tie.Need-same-length-2
 same-length-2 c = search needs
 
 returns-2 : tie.Need-returns-2
-unfolding definitionOf
+unfolding definition
 returns-2 c =
     let a = c .before .before .before .before .before .before .before .before .before .args in
     let e = c .before .before .put-definition2 .ensures in
-    (e .0, e .1 ∙ ap (λ x. placed (a .d .now) (a .at) (cdef.fields x)) (row 1 _ (omega arith) refl))
+    (e .0, e .1 ∙ ap (λ x. placed (a .d .now) (a .at) (definitionBytes x)) (row 1 _ (omega arith) refl))
 
 put-definition-requires-3 : tie.Need-put-definition-requires-3
 put-definition-requires-3 c κs = search needs
@@ -50,11 +50,11 @@ same-length-3 : tie.Need-same-length-3
 same-length-3 c = search needs
 
 returns-3 : tie.Need-returns-3
-unfolding definitionOf
+unfolding definition
 returns-3 c =
     let a = c .before .before .before .before .before .before .before .before .before .args in
     let e = c .before .before .put-definition3 .ensures in
-    (e .0, e .1 ∙ ap (λ x. placed (a .d .now) (a .at) (cdef.fields x)) (row 2 _ (omega arith) refl))
+    (e .0, e .1 ∙ ap (λ x. placed (a .d .now) (a .at) (definitionBytes x)) (row 2 _ (omega arith) refl))
 
 pub define-spec : {M : Type 1} → statement M
 define-spec =

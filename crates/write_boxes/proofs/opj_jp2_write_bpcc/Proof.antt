@@ -6,12 +6,13 @@ use mathlib.Core.Path.{sym, ap, _∙_}
 use mathlib.Core.List.{_++_}
 use Rattle.box_number.specs.Number.{placed}
 use Rattle.box_number.proofs.Placing.{placed-none}
-use Rattle.write_rules.proofs.Splitting.{length-header}
+use Rattle.box_kind.specs.declared.Jp2BoxType.the-variants.{BPCC}
+use Rattle.write_rules.proofs.Lengths.{length-header, length-bpccContent}
 use Rattle.write_rules.specs.Box.{boxHeader}
-use Rattle.write_boxes.specs.Parts.{bpccOf, depthsOf}
+use Rattle.write_rules.specs.Bpcc.{bpcc, bpccContent}
 use Rattle.box_number.proofs.Pieces.{first, piece, whole}
 use Rattle.write_boxes.proofs.Pieces.{box-is}
-use Rattle.write_boxes.proofs.Lengths.{depths-length, bpcc-none, bpcc-some, bpcc-empty, bpcc-full}
+use Rattle.write_boxes.proofs.Lengths.{bpcc-none, bpcc-some, bpcc-empty, bpcc-full}
 use borrow.Author.Needs.{needs}
 use Rattle.write_boxes.proofs.opj_jp2_write_bpcc.Statement.{statement}
 use Rattle.write_boxes.proofs.opj_jp2_write_bpcc.Tie as tie
@@ -36,11 +37,11 @@ returns-2 c =
     let a = b .args in
     let n = a .s .numcomps in
     let some = bpcc-some (a .s) (omega arith) in
-    let p0 = first (a .d .now) (a .at) (boxHeader 0x62706363 n) 8 (length-header 0x62706363 n) (c .before .before .before .before .before .before .put-header .ensures) in
-    let p1 = piece (a .d .now) (a .at) (boxHeader 0x62706363 n) 8 p0 (depthsOf (a .comps .now) n) n (depths-length (a .comps .now) n) (omega (arith, b .pre .0)) (c .before .before .put-depths .ensures) in
+    let p0 = first (a .d .now) (a .at) (boxHeader BPCC n) 8 (length-header BPCC n) (c .before .before .before .before .before .before .put-header .ensures) in
+    let p1 = piece (a .d .now) (a .at) (boxHeader BPCC n) 8 p0 (bpccContent (a .comps .now) n) n (length-bpccContent (a .comps .now) n) (omega (arith, b .pre .0)) (c .before .before .put-depths .ensures) in
     let w =
-    whole (a .d .now) (a .at) (boxHeader 0x62706363 n ++ depthsOf (a .comps .now) n) (bpccOf (a .comps .now) (a .s)) (8 + n) p1
-    (box-is 0x62706363 (depthsOf (a .comps .now) n) (sym (depths-length (a .comps .now) n)) ∙ bpcc-full (a .s) (a .comps .now) (omega arith))
+    whole (a .d .now) (a .at) (boxHeader BPCC n ++ bpccContent (a .comps .now) n) (bpcc (a .comps .now) (a .s)) (8 + n) p1
+    (box-is BPCC (bpccContent (a .comps .now) n) (sym (length-bpccContent (a .comps .now) n)) ∙ bpcc-full (a .s) (a .comps .now) (omega arith))
     in
     (w .0 ∙ ap (λ k. a .at + k) some, w .1)
 

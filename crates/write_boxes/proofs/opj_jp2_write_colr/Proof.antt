@@ -6,12 +6,13 @@ use mathlib.Core.Path.{refl, sym, ap, _∙_}
 use mathlib.Core.List.{_++_}
 use lib.ListN.{length}
 use Rattle.box_number.specs.Number.{bytes}
-use Rattle.write_rules.proofs.Splitting.{length-header}
+use Rattle.box_kind.specs.declared.Jp2BoxType.the-variants.{COLR}
+use Rattle.write_rules.proofs.Lengths.{length-header, length-colrContent}
 use Rattle.write_rules.specs.Box.{boxHeader}
-use Rattle.write_boxes.specs.Parts.{specificationOf, colrOf}
+use Rattle.write_rules.specs.Colr.{specification, colr}
 use Rattle.box_number.proofs.Pieces.{first, piece, whole}
 use Rattle.write_boxes.proofs.Pieces.{regrouped, box-is, field}
-use Rattle.write_boxes.proofs.Lengths.{specification-length, content-length, colr-most}
+use Rattle.write_boxes.proofs.Lengths.{specification-length, colr-most}
 use borrow.Author.Needs.{needs}
 use Rattle.write_boxes.proofs.opj_jp2_write_colr.Statement.{statement}
 use Rattle.write_boxes.proofs.opj_jp2_write_colr.Tie as tie
@@ -49,18 +50,18 @@ returns c =
     let a = b .args in
     let d = a .d .now in
     let n = c .before .before .before .before .before .before .before .before .before .before .before .before .before .before .before .before .before .before .before .colr-length .result in
-    let xs = specificationOf (a .s) (a .profile .now) in
+    let xs = specification (a .s) (a .profile .now) in
     let long = specification-length (b .args .s) (b .args .profile .now) in
     let is = c .before .before .before .before .before .before .before .before .before .before .before .before .before .before .before .before .before .before .before .colr-length .ensures in
-    let p0 = first d (a .at) (boxHeader 0x636f6c72 (n - 8)) 8 (length-header 0x636f6c72 (n - 8)) (c .before .before .before .before .before .before .before .before .before .before .before .before .before .before .before .before .before .before .put-header .ensures) in
-    let p1 = field d (a .at) (boxHeader 0x636f6c72 (n - 8)) 8 p0 1 (a .s .meth) (omega (arith, b .pre .0)) (c .before .before .before .before .before .before .before .before .before .before .before .before .before .before .put .ensures) in
-    let p2 = field d (a .at) (boxHeader 0x636f6c72 (n - 8) ++ bytes 1 (a .s .meth)) 9 p1 1 0 (omega (arith, b .pre .0)) (c .before .before .before .before .before .before .before .before .before .before .put2 .ensures) in
-    let p3 = field d (a .at) (boxHeader 0x636f6c72 (n - 8) ++ bytes 1 (a .s .meth) ++ bytes 1 0) 10 p2 1 0 (omega (arith, b .pre .0)) (c .before .before .before .before .before .before .put3 .ensures) in
-    let p4 = piece d (a .at) (boxHeader 0x636f6c72 (n - 8) ++ bytes 1 (a .s .meth) ++ bytes 1 0 ++ bytes 1 0) 11 p3 xs (length xs) refl (omega (arith, b .pre .0)) (c .before .before .put-specification .ensures) in
+    let p0 = first d (a .at) (boxHeader COLR (n - 8)) 8 (length-header COLR (n - 8)) (c .before .before .before .before .before .before .before .before .before .before .before .before .before .before .before .before .before .before .put-header .ensures) in
+    let p1 = field d (a .at) (boxHeader COLR (n - 8)) 8 p0 1 (a .s .meth) (omega (arith, b .pre .0)) (c .before .before .before .before .before .before .before .before .before .before .before .before .before .before .put .ensures) in
+    let p2 = field d (a .at) (boxHeader COLR (n - 8) ++ bytes 1 (a .s .meth)) 9 p1 1 0 (omega (arith, b .pre .0)) (c .before .before .before .before .before .before .before .before .before .before .put2 .ensures) in
+    let p3 = field d (a .at) (boxHeader COLR (n - 8) ++ bytes 1 (a .s .meth) ++ bytes 1 0) 10 p2 1 0 (omega (arith, b .pre .0)) (c .before .before .before .before .before .before .put3 .ensures) in
+    let p4 = piece d (a .at) (boxHeader COLR (n - 8) ++ bytes 1 (a .s .meth) ++ bytes 1 0 ++ bytes 1 0) 11 p3 xs (length xs) refl (omega (arith, b .pre .0)) (c .before .before .put-specification .ensures) in
     let content = bytes 1 (a .s .meth) ++ bytes 1 0 ++ bytes 1 0 ++ xs in
     let w =
-    whole d (a .at) (boxHeader 0x636f6c72 (n - 8) ++ bytes 1 (a .s .meth) ++ bytes 1 0 ++ bytes 1 0 ++ xs) (colrOf (a .s) (a .profile .now)) (11 + length xs) p4
-    (regrouped (boxHeader 0x636f6c72 (n - 8)) (bytes 1 (a .s .meth)) (bytes 1 0) (bytes 1 0) xs ∙ box-is 0x636f6c72 content (omega (arith, content-length (a .s) (a .profile .now))))
+    whole d (a .at) (boxHeader COLR (n - 8) ++ bytes 1 (a .s .meth) ++ bytes 1 0 ++ bytes 1 0 ++ xs) (colr (a .s) (a .profile .now)) (11 + length xs) p4
+    (regrouped (boxHeader COLR (n - 8)) (bytes 1 (a .s .meth)) (bytes 1 0) (bytes 1 0) xs ∙ box-is COLR content (omega (arith, length-colrContent (a .s) (a .profile .now))))
     in
     (w .0 ∙ ap (λ k. a .at + k) (sym long), w .1)
 

@@ -3,9 +3,10 @@
 use native.Mathlib.Omega.{arith}
 use mathlib.Core.List.{_++_, append-assoc}
 use lib.ListN.{length-append}
-use Rattle.write_rules.proofs.Splitting.{length-header}
+use Rattle.box_kind.specs.declared.Jp2BoxType.the-variants.{IHDR}
+use Rattle.write_rules.proofs.Lengths.{length-header}
 use Rattle.write_rules.specs.Box.{boxHeader, box}
-use Rattle.write_boxes.specs.Parts.{ihdrOf}
+use Rattle.write_rules.specs.Ihdr.{ihdr}
 use Rattle.box_number.specs.Number.{bytes}
 use Rattle.box_number.proofs.Bytes.{length-bytes}
 use Rattle.box_number.proofs.Pieces.{first, whole}
@@ -47,15 +48,15 @@ returns c =
     let b = c .before .before .before .before .before .before .before .before .before .before .before .before .before .before .before .before .before .before .before .before .before .before .before .before .before .before .before .before .before .before .before .before .before in
     let d = b .args .d .now in
     let at = b .args .at in
-    let p0 = first d at (boxHeader 0x69686472 14) 8 (length-header 0x69686472 14) (c .before .before .before .before .before .before .before .before .before .before .before .before .before .before .before .before .before .before .before .before .before .before .before .before .before .before .before .before .before .before .put-header .ensures) in
-    let p1 = field d at (boxHeader 0x69686472 14) 8 p0 4 (b .args .s .h) (omega arith) (c .before .before .before .before .before .before .before .before .before .before .before .before .before .before .before .before .before .before .before .before .before .before .before .before .before .before .put .ensures) in
-    let p2 = field d at (boxHeader 0x69686472 14 ++ bytes 4 (b .args .s .h)) 12 p1 4 (b .args .s .w) (omega arith) (c .before .before .before .before .before .before .before .before .before .before .before .before .before .before .before .before .before .before .before .before .before .before .put2 .ensures) in
-    let p3 = field d at (boxHeader 0x69686472 14 ++ bytes 4 (b .args .s .h) ++ bytes 4 (b .args .s .w)) 16 p2 2 (b .args .s .numcomps) (omega arith) (c .before .before .before .before .before .before .before .before .before .before .before .before .before .before .before .before .before .before .put3 .ensures) in
-    let p4 = field d at (boxHeader 0x69686472 14 ++ bytes 4 (b .args .s .h) ++ bytes 4 (b .args .s .w) ++ bytes 2 (b .args .s .numcomps)) 18 p3 1 (b .args .s .bpc) (omega arith) (c .before .before .before .before .before .before .before .before .before .before .before .before .before .before .put4 .ensures) in
-    let p5 = field d at (boxHeader 0x69686472 14 ++ bytes 4 (b .args .s .h) ++ bytes 4 (b .args .s .w) ++ bytes 2 (b .args .s .numcomps) ++ bytes 1 (b .args .s .bpc)) 19 p4 1 7 (omega arith) (c .before .before .before .before .before .before .before .before .before .before .put5 .ensures) in
-    let p6 = field d at (boxHeader 0x69686472 14 ++ bytes 4 (b .args .s .h) ++ bytes 4 (b .args .s .w) ++ bytes 2 (b .args .s .numcomps) ++ bytes 1 (b .args .s .bpc) ++ bytes 1 7) 20 p5 1 0 (omega arith) (c .before .before .before .before .before .before .put6 .ensures) in
-    let p7 = field d at (boxHeader 0x69686472 14 ++ bytes 4 (b .args .s .h) ++ bytes 4 (b .args .s .w) ++ bytes 2 (b .args .s .numcomps) ++ bytes 1 (b .args .s .bpc) ++ bytes 1 7 ++ bytes 1 0) 21 p6 1 0 (omega arith) (c .before .before .put7 .ensures) in
-    whole d at (boxHeader 0x69686472 14 ++ bytes 4 (b .args .s .h) ++ bytes 4 (b .args .s .w) ++ bytes 2 (b .args .s .numcomps) ++ bytes 1 (b .args .s .bpc) ++ bytes 1 7 ++ bytes 1 0 ++ bytes 1 0) (ihdrOf (b .args .s)) 22 p7 (simp (length-append, length-bytes, append-assoc))
+    let p0 = first d at (boxHeader IHDR 14) 8 (length-header IHDR 14) (c .before .before .before .before .before .before .before .before .before .before .before .before .before .before .before .before .before .before .before .before .before .before .before .before .before .before .before .before .before .before .put-header .ensures) in
+    let p1 = field d at (boxHeader IHDR 14) 8 p0 4 (b .args .s .h) (omega arith) (c .before .before .before .before .before .before .before .before .before .before .before .before .before .before .before .before .before .before .before .before .before .before .before .before .before .before .put .ensures) in
+    let p2 = field d at (boxHeader IHDR 14 ++ bytes 4 (b .args .s .h)) 12 p1 4 (b .args .s .w) (omega arith) (c .before .before .before .before .before .before .before .before .before .before .before .before .before .before .before .before .before .before .before .before .before .before .put2 .ensures) in
+    let p3 = field d at (boxHeader IHDR 14 ++ bytes 4 (b .args .s .h) ++ bytes 4 (b .args .s .w)) 16 p2 2 (b .args .s .numcomps) (omega arith) (c .before .before .before .before .before .before .before .before .before .before .before .before .before .before .before .before .before .before .put3 .ensures) in
+    let p4 = field d at (boxHeader IHDR 14 ++ bytes 4 (b .args .s .h) ++ bytes 4 (b .args .s .w) ++ bytes 2 (b .args .s .numcomps)) 18 p3 1 (b .args .s .bpc) (omega arith) (c .before .before .before .before .before .before .before .before .before .before .before .before .before .before .put4 .ensures) in
+    let p5 = field d at (boxHeader IHDR 14 ++ bytes 4 (b .args .s .h) ++ bytes 4 (b .args .s .w) ++ bytes 2 (b .args .s .numcomps) ++ bytes 1 (b .args .s .bpc)) 19 p4 1 7 (omega arith) (c .before .before .before .before .before .before .before .before .before .before .put5 .ensures) in
+    let p6 = field d at (boxHeader IHDR 14 ++ bytes 4 (b .args .s .h) ++ bytes 4 (b .args .s .w) ++ bytes 2 (b .args .s .numcomps) ++ bytes 1 (b .args .s .bpc) ++ bytes 1 7) 20 p5 1 0 (omega arith) (c .before .before .before .before .before .before .put6 .ensures) in
+    let p7 = field d at (boxHeader IHDR 14 ++ bytes 4 (b .args .s .h) ++ bytes 4 (b .args .s .w) ++ bytes 2 (b .args .s .numcomps) ++ bytes 1 (b .args .s .bpc) ++ bytes 1 7 ++ bytes 1 0) 21 p6 1 0 (omega arith) (c .before .before .put7 .ensures) in
+    whole d at (boxHeader IHDR 14 ++ bytes 4 (b .args .s .h) ++ bytes 4 (b .args .s .w) ++ bytes 2 (b .args .s .numcomps) ++ bytes 1 (b .args .s .bpc) ++ bytes 1 7 ++ bytes 1 0 ++ bytes 1 0) (ihdr (b .args .s)) 22 p7 (simp (length-append, length-bytes, append-assoc))
 
 pub opj-jp2-write-ihdr-spec : {M : Type 1} → statement M
 opj-jp2-write-ihdr-spec =

@@ -1,39 +1,32 @@
 -- `write_boxes::put_header` meets its contract.
 -- Assumes nothing.
-use native.Mathlib.Omega.{arith}
-use Prim.Native.Nat.{_+_}
-use mathlib.Core.Path.{refl}
-use mathlib.Core.List.{_++_}
-use Rattle.write_rules.specs.Box.{boxHeader}
-use Rattle.box_number.specs.Number.{bytes}
-use Rattle.box_number.proofs.Bytes.{length-bytes}
-use Rattle.box_number.proofs.Pieces.{first, whole}
-use Rattle.write_boxes.proofs.Pieces.{field}
 use borrow.Author.Needs.{needs}
+use native.Mathlib.Omega.{arith}
+use mathlib.Core.Path.{refl, ap, _∙_}
+use Rattle.box_header.specs.declared.Jp2BoxHeader.{Jp2BoxHeader}
+use Rattle.write_boxes.proofs.Pieces.{header-placed}
 use Rattle.write_boxes.proofs.put_header.Statement.{statement}
 use Rattle.write_boxes.proofs.put_header.Tie as tie
 
-add-put : tie.Need-add-put
-add-put c = search needs
+new-requires : tie.Need-new-requires
+new-requires c κs = tt
 
-put-requires : tie.Need-put-requires
-put-requires c κs = search needs
+add-header : tie.Need-add-header
+add-header c = let b = c .before .before .before in omega (arith, b .pre .0, ap (λ (h : Jp2BoxHeader). h .length) (c .before .new .ensures))
 
-put-requires-2 : tie.Need-put-requires-2
-put-requires-2 c κs = search needs
+write-requires : tie.Need-write-requires
+write-requires c κs = tt
+
+add-result : tie.Need-add-result
+add-result c = search needs
 
 same-length : tie.Need-same-length
 same-length c = search needs
 
 returns : tie.Need-returns
-unfolding boxHeader
 returns c =
-    let b = c .before .before .before .before .before .before .before .before .before in
-    let d = b .args .d .now in
-    let at = b .args .at in
-    let p0 = first d at (bytes 4 (8 + b .args .content)) 4 (length-bytes 4 (8 + b .args .content)) (c .before .before .before .before .before .before .put .ensures) in
-    let p1 = field d at (bytes 4 (8 + b .args .content)) 4 p0 4 (b .args .ty) (omega arith) (c .before .before .put2 .ensures) in
-    whole d at (bytes 4 (8 + b .args .content) ++ bytes 4 (b .args .ty)) (boxHeader (b .args .ty) (b .args .content)) 8 p1 (refl)
+    let b = c .before .before .before .before .before .before .before in
+    (refl, c .before .before .write .ensures .1 ∙ header-placed (b .args .d .now) (b .args .at) (b .args .kind) (b .args .content) (c .before .before .before .before .before .new .ensures) (b .pre .1))
 
 pub put-header-spec : {M : Type 1} → statement M
-put-header-spec = tie.close (tie.spec add-put put-requires put-requires-2 same-length returns)
+put-header-spec = tie.close (tie.spec new-requires add-header write-requires add-result same-length returns)

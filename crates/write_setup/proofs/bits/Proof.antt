@@ -4,8 +4,7 @@ use Prim.Native.Nat.{_+_, _-_, _*_}
 use native.Mathlib.Omega.{arith}
 use mathlib.Core.Path.{refl, ap₂}
 use Rattle.box_number.proofs.Rows.{row}
-use Rattle.write_rules.specs.Setup.{BPCi}
-use Rattle.write_setup.specs.Parts.{bpcOf}
+use Rattle.write_rules.specs.Setup.{BPCi, BPC}
 use Rattle.write_setup.proofs.bits.Statement.{statement}
 use Rattle.write_setup.proofs.bits.Tie as tie
 
@@ -13,7 +12,7 @@ first-other-requires : tie.Need-first-other-requires
 first-other-requires c κs = tt
 
 returns : tie.Need-returns
-unfolding bpcOf
+unfolding BPC
 returns c = row 0 _ (omega arith) refl
 
 component-requires : tie.Need-component-requires
@@ -32,7 +31,7 @@ add-result : tie.Need-add-result
 add-result c = omega arith
 
 returns-2 : tie.Need-returns-2
-unfolding bpcOf BPCi
+unfolding BPC BPCi
 returns-2 c = row 1 _ (omega arith) (ap₂ (λ p s. p - 1 + 128 * s) (c .before .component .ensures) (c .component2 .ensures))
 
 pub bits-spec : {M : Type 1} → statement M

@@ -8,13 +8,12 @@ use borrow.Author.Count.{below-more}
 use Rattle.box_number.proofs.Rows.{Says}
 use Rattle.box_number.proofs.Indices.{none-is, lowest-first}
 use Rattle.box_number.proofs.Answers.{said}
-use Rattle.write_rules.specs.Writing.{ill}
-use Rattle.write_setup.specs.Parts.{listed}
+use Rattle.write_rules.specs.Setup.{ill}
 use Rattle.write_setup.proofs.first_ill.Statement.{statement}
 use Rattle.write_setup.proofs.first_ill.Tie as tie
 
 abbrev Inv-loop : tie.InvT-loop
-Inv-loop comps count c₀ c = (c ≤ count) × ((i : ℕ) → i < c → Says false (ill (listed comps) i))
+Inv-loop comps count c₀ c = (c ≤ count) × ((i : ℕ) → i < c → Says false (ill comps i))
 
 abbrev μ-loop : tie.MeasureT-loop
 μ-loop comps count c₀ c = count - c
@@ -29,7 +28,7 @@ returns : tie.Need-returns Inv-loop μ-loop
 returns c =
     let a = c .before .before .before .before .before .args in
     let l = c .before .before .before .loop in
-    lowest-first (ill (listed (a .comps .now))) (l .c) (a .count) (l .inv .1) (said true (ill (listed (a .comps .now)) (l .c)) (sym (c .if1 .taken) ∙ c .before .is-ill .ensures)) (omega arith)
+    lowest-first (ill (a .comps .now)) (l .c) (a .count) (l .inv .1) (said true (ill (a .comps .now) (l .c)) (sym (c .if1 .taken) ∙ c .before .is-ill .ensures)) (omega arith)
 
 add-c : tie.Need-add-c Inv-loop μ-loop
 add-c c = omega arith
@@ -41,10 +40,10 @@ loop-again : tie.Need-loop-again Inv-loop μ-loop
 loop-again c =
     let a = c .before .before .before .before .before .args in
     let l = c .before .before .before .loop in
-    (omega arith, below-more (λ i. Says false (ill (listed (a .comps .now)) i)) (l .c) (l .inv .1) (said false (ill (listed (a .comps .now)) (l .c)) (sym (c .if1 .left) ∙ c .before .is-ill .ensures)))
+    (omega arith, below-more (λ i. Says false (ill (a .comps .now) i)) (l .c) (l .inv .1) (said false (ill (a .comps .now) (l .c)) (sym (c .if1 .left) ∙ c .before .is-ill .ensures)))
 
 returns-2 : tie.Need-returns-2 Inv-loop μ-loop
-returns-2 c = let a = c .before .before .before .args in none-is (ill (listed (a .comps .now))) (a .count) (λ i h. c .before .loop .inv .1 i (omega arith))
+returns-2 c = let a = c .before .before .before .args in none-is (ill (a .comps .now)) (a .count) (λ i h. c .before .loop .inv .1 i (omega arith))
 
 pub first-ill-spec : {M : Type 1} → statement M
 first-ill-spec =

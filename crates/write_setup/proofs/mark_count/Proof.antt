@@ -5,14 +5,13 @@ use native.Mathlib.Omega.{arith}
 use native.Mathlib.Numerals.{add-one}
 use mathlib.Core.Path.{_≡_, refl, ap, _∙_}
 use Rattle.write_rules.specs.Setup.{marks}
-use Rattle.write_setup.specs.Parts.{listed}
 use Rattle.write_setup.proofs.Marks.{once, marks-next}
 use Rattle.write_setup.proofs.mark_count.Statement.{statement}
 use Rattle.write_setup.proofs.mark_count.Tie as tie
 
 -- the count so far, which a component raises by no more than 1
 abbrev Inv-loop : tie.InvT-loop
-Inv-loop comps count marked₀ c₀ marked c = (c ≤ count) × (marked ≡ marks (listed comps) c) × (marked ≤ c)
+Inv-loop comps count marked₀ c₀ marked c = (c ≤ count) × (marked ≡ marks comps c) × (marked ≤ c)
 
 abbrev μ-loop : tie.MeasureT-loop
 μ-loop comps count marked₀ c₀ marked c = count - c
@@ -25,7 +24,7 @@ is-marked-requires : tie.Need-is-marked-requires Inv-loop μ-loop
 is-marked-requires c κs = tt
 
 add-marked : tie.Need-add-marked Inv-loop μ-loop
-add-marked c = let a = c .before .before .before .before .args in let l = c .before .before .loop in omega (arith, once (listed (a .comps .now)) (l .c) (c .is-marked .ensures))
+add-marked c = let a = c .before .before .before .before .args in let l = c .before .before .loop in omega (arith, once (a .comps .now) (l .c) (c .is-marked .ensures))
 
 add-c : tie.Need-add-c Inv-loop μ-loop
 add-c c = omega arith
@@ -37,14 +36,14 @@ loop-again : tie.Need-loop-again Inv-loop μ-loop
 loop-again c =
     let a = c .before .before .before .before .args in
     let l = c .before .before .loop in
-    let r = listed (a .comps .now) in (
+    let r = a .comps .now in (
       omega arith,
       rw (add-one (l .c)) (marks-next r (l .c) (c .is-marked .ensures) (l .inv .1)),
       omega (arith, once r (l .c) (c .is-marked .ensures)),
     )
 
 returns : tie.Need-returns Inv-loop μ-loop
-returns c = let a = c .before .before .before .args in let l = c .before .loop in let e : l .c ≡ a .count = omega arith in l .inv .1 ∙ ap (marks (listed (a .comps .now))) e
+returns c = let a = c .before .before .before .args in let l = c .before .loop in let e : l .c ≡ a .count = omega arith in l .inv .1 ∙ ap (marks (a .comps .now)) e
 
 pub mark-count-spec : {M : Type 1} → statement M
 mark-count-spec =

@@ -5,10 +5,8 @@ use borrow.Author.Needs.{needs}
 use mathlib.Core.Path.{refl, ap}
 use Rattle.box_number.proofs.Indices.{lowest-none}
 use Rattle.box_number.proofs.Rows.{row}
-use Rattle.write_rules.specs.Writing.{ill}
-use Rattle.write_setup.specs.declared.Encoder.the-variants.{Refused}
-use Rattle.write_setup.specs.Encoder.{setUp}
-use Rattle.write_setup.specs.Parts.{listed}
+use Rattle.write_rules.specs.declared.Encoder.the-variants.{Refused}
+use Rattle.write_rules.specs.Setup.{ill, setUp}
 use Rattle.write_setup.proofs.Wraps.{wraps-is}
 use Rattle.write_setup.proofs.Settings.{ready}
 use Rattle.write_setup.proofs.opj_jp2_setup_encoder.Statement.{statement}
@@ -38,7 +36,7 @@ returns-4 c = row 2 _ (omega arith) (ap (Refused 32) (c .before .first-ill .ensu
 
 -- where no component is ill, component 0 is not: there is one at least
 bits-requires : tie.Need-bits-requires
-bits-requires c κs = let a = c .before .before .before .before .before .before .before .args in lowest-none (ill (listed (a .comps .now))) (a .count) (omega arith) 0 (omega arith)
+bits-requires c κs = let a = c .before .before .before .before .before .before .before .args in lowest-none (ill (a .comps .now)) (a .count) (omega arith) 0 (omega arith)
 
 method-requires : tie.Need-method-requires
 method-requires c κs = tt

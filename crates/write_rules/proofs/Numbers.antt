@@ -1,4 +1,4 @@
--- Numbers in bytes that stand one after the other.
+-- Numbers in bytes, one after the other.
 -- Assumes nothing.
 use Prim.Native.Nat.{ℕ, zero, suc, _+_, _^_, _≤_, _<_}
 use mathlib.Core.Path.{_≡_, refl, sym, ap, _∙_}

@@ -1,2 +1,0 @@
-pub mod Encoder
-pub mod Parts
