@@ -46,7 +46,7 @@ module _ (s : List ℕ) where
   unfolding part
   part-past start end h = rw (drop-of-length-le s h) (take-nil (end - start))
 
-  -- what stands from a place on, as the code has it
+  -- the rest of a list from a place on, as the code has it
   pub rest-is : (n : ℕ) → take (length s - n) (drop n s) ≡ drop n s
   rest-is n = take-all (length s - n) (drop n s) (rw length-drop (omega arith))
 

@@ -55,7 +55,7 @@ module _ {A : Type 0} (d : List A) (at : ℕ) (s : List A) where
   pub placing-more : (e : List A) (j : ℕ) (z v : A) → Placing d at s e j → at + j < length d → j < length s → v ≡ getD s j z → Placing d at s (set e (at + j) v) (j + 1)
   placing-more e j z v p h k q = record { pasted = rw (p .pasted, q, add-one) (paste-suc d at s j z h k); long = length-set e (at + j) v ∙ p .long }
 
-  -- at the end n stand there
+  -- at the end all n elements are there
   pub placing-all : (e : List A) (j n : ℕ) → Placing d at s e j → j ≡ n → n ≤ length s → e ≡ placed d at (take n s)
   unfolding placed
   placing-all e j n p q h = rw (length-take-le n s h, ← q) (p .pasted)
@@ -69,7 +69,7 @@ module _ {A : Type 0} (d : List A) (at : ℕ) (s : List A) where
   unfolding placed
   placing-from j h r q = record { pasted = q ∙ rw (length-take-le j s h); long = ap length q ∙ simp (length-append, length-take, length-drop) (omega arith) }
 
--- one piece after another: xs stand in front, and ys are placed after them
+-- one piece after another: xs are in front, and ys are placed after them
 pub placed-after : {A : Type 0} (d xs ys : List A) → placed (xs ++ drop (length xs) d) (length xs) ys ≡ xs ++ ys ++ drop (length (xs ++ ys)) d
 unfolding placed
 placed-after d xs ys = rw (take-append-seam, drop-append-add, drop-drop, length-append)

@@ -18,7 +18,7 @@ part s start end = take (end - start) (drop start s)
 abbrev pub least : ℕ → ℕ → ℕ
 least m n = table (m <? n ⇒ m ∣ otherwise n)
 
--- the given count of bytes of a number, the highest first: the lowest stands last
+-- the given count of bytes of a number, the highest first and the lowest last
 unfoldable pub bytes : ℕ → ℕ → List ℕ
 bytes zero v = []
 bytes (suc n) v = bytes n (v / 256) ++ (v % 256 ∷ [])

@@ -1,4 +1,4 @@
--- I.5.3.5, Component Mapping box: for each channel CMPi (2 bytes), MTYPi (1) and PCOLi (1). Difference 10: it has one mapping for each column of the palette, which stands before it,
+-- I.5.3.5, Component Mapping box: for each channel CMPi (2 bytes), MTYPi (1) and PCOLi (1). Difference 10: it has one mapping for each column of the palette, which comes before it,
 -- and bytes after them are passed over.
 use Prim.Native.Nat.{ℕ, _+_, _*_}
 use mathlib.Core.List.{List}

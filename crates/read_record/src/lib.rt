@@ -1,4 +1,4 @@
-// The header record: `opj_jp2` of types.rs and what hangs on it, by value and in parts, and what a reader answers.
+// The header record (`opj_jp2` of types.rs and the structs inside it), by value and in parts, and the answer of a reader.
 ghost use mathlib.Core.Path.{_≡_};
 ghost use Prim.Native.Nat.{_+_, _*_};
 ghost use lib.ListN.{getD};
@@ -195,7 +195,7 @@ pub const DATA: u32 = 11;
 
 pub const ALPHA: u32 = 12;
 
-// How many numbers a component has, and what stands for the index of its first sample where it has no samples.
+// How many numbers a component has, and the value of `data` for a component without samples.
 pub const COMPONENT_NUMBERS: usize = 13;
 
 pub const NO_DATA: u32 = 4294967295;
