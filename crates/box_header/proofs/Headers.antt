@@ -1,13 +1,13 @@
 -- What LBox says of the two lengths, and what an answer says of the bytes.
 -- Assumes nothing.
-use Prim.Native.Nat.{ℕ, _+_, _*_, _≤_, _<_}
+use Prim.Native.Nat.{ℕ, _+_, _-_, _*_, _≤_, _<_}
 use native.Mathlib.Omega.{arith}
-use mathlib.Core.Path.{_≡_, refl, sym, subst, _∙_}
+use mathlib.Core.Path.{_≡_, refl, sym, ap, subst, _∙_}
 use mathlib.Core.List.{List, [], _∷_}
 use types.Run.{OneOf, miss}
 use denote.Enum.Declared.{tagOf}
-use lib.ListN.{length}
-use Rattle.box_number.specs.Number.{number}
+use lib.ListN.{length, take, drop}
+use Rattle.box_number.specs.Number.{number, part}
 use Rattle.box_kind.specs.Kind.{kindOf}
 use Rattle.box_kind.specs.declared.Jp2BoxType.{Jp2BoxType}
 use Rattle.box_header.specs.Box.{LBox, headerLength, boxLength, headerOf, header, childHeader}
@@ -121,3 +121,8 @@ module _ (c : List ℕ) where
 
   pub child-missing : (r : ReadHeader) → r ≡ childHeader c → OneOf missing (tagOf the-type r) → headerLength c ≤ length c → (LBox c ≡ 0 → ⊥) → 4294967295 < boxLength c
   child-missing r = shown-missing InSuperbox NoChild r child-shows
+
+-- a box's content, by where it ends and by how long it is
+pub part-content : (c : List ℕ) (h : Jp2BoxHeader) {n : ℕ} → n ≡ h .length - h .«header_length» → part c (h .«header_length») (h .«header_length» + n) ≡ part c (h .«header_length») (h .length)
+unfolding part
+part-content c h {n} e = let z : h .«header_length» + n - h .«header_length» ≡ h .length - h .«header_length» = omega arith in ap (λ m. take m (drop (h .«header_length») c)) z

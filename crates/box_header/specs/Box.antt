@@ -11,6 +11,10 @@ use Rattle.box_header.specs.declared.Jp2BoxHeader.{Jp2BoxHeader}
 use Rattle.box_header.specs.declared.ReadHeader.{ReadHeader}
 use Rattle.box_header.specs.declared.ReadHeader.the-variants.{Header, NoBytes, Cut, HighWord, LengthZero}
 
+-- the largest length that 32 bits hold, and with it the longest file that is read
+abbrev pub largest : ℕ
+largest = 4294967295
+
 abbrev pub LBox : List ℕ → ℕ
 LBox c = number c 0 4
 
@@ -30,16 +34,16 @@ boxLength c = table (LBox c =? 0 ⇒ length c ∣ LBox c =? 1 ⇒ XLBox c ∣ ot
 abbrev pub headerOf : List ℕ → Jp2BoxHeader
 headerOf c = record { length = boxLength c; ty = kindOf (TBox c); «header_length» = headerLength c }
 
--- the three ways in which a header is missing; a length is kept in 32 bits, and one with a high word is told apart (difference 3)
+-- the three ways in which a header is missing; a length has 32 bits, and one with a high word is an answer of its own (difference 3)
 unfoldable pub header : List ℕ → ReadHeader
 header c =
     table
     (length c =? 0 ⇒ NoBytes
     ∣ length c <? headerLength c ⇒ Cut
-    ∣ 4294967295 <? boxLength c ⇒ HighWord
+    ∣ largest <? boxLength c ⇒ HighWord
     ∣ otherwise (Header (headerOf c)))
 
--- inside a superbox LBox 0 is told apart too: only the last box of the file may reach to an end that it does not name (difference 19)
+-- inside a superbox LBox 0 is an answer of its own too: only the last box of the file may reach to an end that it does not name (difference 19)
 unfoldable pub childHeader : List ℕ → ReadHeader
 childHeader c = table (length c <? 8 ⇒ header c ∣ LBox c =? 0 ⇒ LengthZero ∣ otherwise (header c))
 

@@ -5,13 +5,16 @@ ghost use Rattle.box_kind.specs.Kind.{numberOf};
 ghost use Rattle.box_header.specs.Box.{header, childHeader, newHeader, fitsHeader, withHeader};
 use box_kind::Jp2BoxType;
 
+// The largest length that 32 bits hold.
+pub const LARGEST: usize = 4294967295;
+
 pub struct Jp2BoxHeader {
     pub length: u32,
     pub ty: Jp2BoxType,
     pub header_length: u32,
 }
 
-// What stands where a box is to start: its header, or one of the ways in which there is none.
+// The answer of reading a header: the header, or one of the ways in which there is none.
 pub enum ReadHeader {
     Header(Jp2BoxHeader),
     NoBytes,
@@ -45,7 +48,7 @@ impl Jp2BoxHeader {
         let lbox = box_number::read_u32(c, 0);
         let ty = Jp2BoxType::from_u32(box_number::read_u32(c, 4));
         if lbox == 0 {
-            if 4294967295 < c.len() {
+            if LARGEST < c.len() {
                 return ReadHeader::HighWord;
             }
             return ReadHeader::Header(Jp2BoxHeader {

@@ -9,8 +9,8 @@ use mathlib.Core.List.{List, [], _∷_}
 use types.Run.{OneOf, miss}
 use denote.Enum.Declared.{tagOf}
 use Rattle.box_kind.proofs.Jp2BoxType.{the-type}
-use Rattle.box_number.specs.Table.{table}
-use Rattle.box_kind.specs.Kind.{kindOf, numberOf, isFileHeader, isImageHeader, Proper, KindsAndNumbers}
+use Rattle.box_number.specs.Table.{holds, table}
+use Rattle.box_kind.specs.Kind.{kindOf, numberOf, tag, isFileHeader, isImageHeader, Proper, KindsAndNumbers}
 use Rattle.box_kind.specs.declared.Jp2BoxType.{Jp2BoxType}
 use Rattle.box_kind.specs.declared.Jp2BoxType.the-variants.{None, JPIP, JP, FTYP, JP2H, IHDR, COLR, JP2C, URL, PCLR, CMAP, CDEF, DTBL, BPCC, JP2, RES, JP2I, XML, UUID, UINF, Unknown}
 use Rattle.box_number.proofs.Rows.{row, each}
@@ -57,7 +57,7 @@ kinds-and-numbers =
     }
 
 -- where no kind of the list has f, a kind whose tag is in the list has it not
-by-tag : (ks : List ℕ) (f : Jp2BoxType → Bool) (k : Jp2BoxType) → T (not (hasKey ks (tagOf the-type k)) || not (f k)) → OneOf ks (tagOf the-type k) → false ≡ f k
+pub by-tag : (ks : List ℕ) (f : Jp2BoxType → Bool) (k : Jp2BoxType) → T (not (hasKey ks (tagOf the-type k)) || not (f k)) → OneOf ks (tagOf the-type k) → false ≡ f k
 by-tag ks f k t m = go (hasKey ks (tagOf the-type k)) (f k) refl t
   where
     go : (b v : Bool) → hasKey ks (tagOf the-type k) ≡ b → T (not b || not v) → false ≡ v
@@ -65,11 +65,11 @@ by-tag ks f k t m = go (hasKey ks (tagOf the-type k)) (f k) refl t
     go true true e h = absurd h
     go false true e h = absurd (miss ks (tagOf the-type k) (subst (λ (x : Bool). T (not x)) (sym e) tt) m)
 
-pub not-file : (k : Jp2BoxType) → OneOf (0 ∷ 1 ∷ 5 ∷ 6 ∷ 7 ∷ 8 ∷ 9 ∷ 10 ∷ 11 ∷ 12 ∷ 13 ∷ 14 ∷ 15 ∷ 16 ∷ 17 ∷ 18 ∷ 19 ∷ 20 ∷ []) (tagOf the-type k) → false ≡ isFileHeader k
-not-file k = by-tag (0 ∷ 1 ∷ 5 ∷ 6 ∷ 7 ∷ 8 ∷ 9 ∷ 10 ∷ 11 ∷ 12 ∷ 13 ∷ 14 ∷ 15 ∷ 16 ∷ 17 ∷ 18 ∷ 19 ∷ 20 ∷ []) isFileHeader k (elim k [ None ↦ tt | JPIP ↦ tt | JP ↦ tt | FTYP ↦ tt | JP2H ↦ tt | IHDR ↦ tt | COLR ↦ tt | JP2C ↦ tt | URL ↦ tt | PCLR ↦ tt | CMAP ↦ tt | CDEF ↦ tt | DTBL ↦ tt | BPCC ↦ tt | JP2 ↦ tt | RES ↦ tt | JP2I ↦ tt | XML ↦ tt | UUID ↦ tt | UINF ↦ tt | Unknown n ↦ tt ])
+pub not-file : (k : Jp2BoxType) → OneOf (0 ∷ 1 ∷ 5 ∷ 6 ∷ 7 ∷ 8 ∷ 9 ∷ 10 ∷ 11 ∷ 12 ∷ 13 ∷ 14 ∷ 15 ∷ 16 ∷ 17 ∷ 18 ∷ 19 ∷ 20 ∷ []) (tagOf the-type k) → false ≡ holds (isFileHeader k)
+not-file k = by-tag (0 ∷ 1 ∷ 5 ∷ 6 ∷ 7 ∷ 8 ∷ 9 ∷ 10 ∷ 11 ∷ 12 ∷ 13 ∷ 14 ∷ 15 ∷ 16 ∷ 17 ∷ 18 ∷ 19 ∷ 20 ∷ []) (λ l. holds (isFileHeader l)) k (elim k [ None ↦ tt | JPIP ↦ tt | JP ↦ tt | FTYP ↦ tt | JP2H ↦ tt | IHDR ↦ tt | COLR ↦ tt | JP2C ↦ tt | URL ↦ tt | PCLR ↦ tt | CMAP ↦ tt | CDEF ↦ tt | DTBL ↦ tt | BPCC ↦ tt | JP2 ↦ tt | RES ↦ tt | JP2I ↦ tt | XML ↦ tt | UUID ↦ tt | UINF ↦ tt | Unknown n ↦ tt ])
 
-pub not-image : (k : Jp2BoxType) → OneOf (0 ∷ 1 ∷ 2 ∷ 3 ∷ 4 ∷ 7 ∷ 8 ∷ 12 ∷ 14 ∷ 15 ∷ 16 ∷ 17 ∷ 18 ∷ 19 ∷ 20 ∷ []) (tagOf the-type k) → false ≡ isImageHeader k
-not-image k = by-tag (0 ∷ 1 ∷ 2 ∷ 3 ∷ 4 ∷ 7 ∷ 8 ∷ 12 ∷ 14 ∷ 15 ∷ 16 ∷ 17 ∷ 18 ∷ 19 ∷ 20 ∷ []) isImageHeader k (elim k [ None ↦ tt | JPIP ↦ tt | JP ↦ tt | FTYP ↦ tt | JP2H ↦ tt | IHDR ↦ tt | COLR ↦ tt | JP2C ↦ tt | URL ↦ tt | PCLR ↦ tt | CMAP ↦ tt | CDEF ↦ tt | DTBL ↦ tt | BPCC ↦ tt | JP2 ↦ tt | RES ↦ tt | JP2I ↦ tt | XML ↦ tt | UUID ↦ tt | UINF ↦ tt | Unknown n ↦ tt ])
+pub not-image : (k : Jp2BoxType) → OneOf (0 ∷ 1 ∷ 2 ∷ 3 ∷ 4 ∷ 7 ∷ 8 ∷ 12 ∷ 14 ∷ 15 ∷ 16 ∷ 17 ∷ 18 ∷ 19 ∷ 20 ∷ []) (tagOf the-type k) → false ≡ holds (isImageHeader k)
+not-image k = by-tag (0 ∷ 1 ∷ 2 ∷ 3 ∷ 4 ∷ 7 ∷ 8 ∷ 12 ∷ 14 ∷ 15 ∷ 16 ∷ 17 ∷ 18 ∷ 19 ∷ 20 ∷ []) (λ l. holds (isImageHeader l)) k (elim k [ None ↦ tt | JPIP ↦ tt | JP ↦ tt | FTYP ↦ tt | JP2H ↦ tt | IHDR ↦ tt | COLR ↦ tt | JP2C ↦ tt | URL ↦ tt | PCLR ↦ tt | CMAP ↦ tt | CDEF ↦ tt | DTBL ↦ tt | BPCC ↦ tt | JP2 ↦ tt | RES ↦ tt | JP2I ↦ tt | XML ↦ tt | UUID ↦ tt | UINF ↦ tt | Unknown n ↦ tt ])
 
 -- a kind that was read from a number is the kind of that number
 pub is-kind : {n : ℕ} {k : Jp2BoxType} {l : Jp2BoxType} → k ≡ kindOf n → k ≡ l → n ≡ numberOf l
@@ -81,3 +81,11 @@ not-kind ks m t e h f = miss ks (tagOf the-type (kindOf m)) t (subst (λ (l : Jp
 
 pub proper-kind : (n : ℕ) {k : Jp2BoxType} → k ≡ kindOf n → k ≡ kindOf (numberOf k)
 proper-kind n e = e ∙ ap kindOf (sym (number-back n) ∙ ap numberOf (sym e))
+
+-- the tag that a `match` looks at is the kind's place in the list of names
+pub tag-is : (k : Jp2BoxType) → tagOf the-type k ≡ tag k
+tag-is k = elim k [ None ↦ refl | JPIP ↦ refl | JP ↦ refl | FTYP ↦ refl | JP2H ↦ refl | IHDR ↦ refl | COLR ↦ refl | JP2C ↦ refl | URL ↦ refl | PCLR ↦ refl | CMAP ↦ refl | CDEF ↦ refl | DTBL ↦ refl | BPCC ↦ refl | JP2 ↦ refl | RES ↦ refl | JP2I ↦ refl | XML ↦ refl | UUID ↦ refl | UINF ↦ refl | Unknown n ↦ refl ]
+
+-- a kind whose tag is in a list is none of the names whose tags are not
+pub not-named : (ks : List ℕ) (k name : Jp2BoxType) → T (not (hasKey ks (tag name))) → OneOf ks (tagOf the-type k) → tag k ≡ tag name → ⊥
+not-named ks k name t h e = miss ks (tag name) t (subst (OneOf ks) (tag-is k ∙ e) h)

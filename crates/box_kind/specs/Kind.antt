@@ -2,11 +2,11 @@
 -- 'jpip', 'dtbl' and 'jp2 ' are kinds of the crate that the table does not have.
 use Prim.Native.Nat.{ℕ}
 use mathlib.Core.Path.{_≡_}
-use mathlib.Core.Bool.{Bool, true, false}
-use Rattle.box_number.specs.Table.{_=?_, otherwise, _⇒_∣_, table}
+use Rattle.box_number.specs.Table.{Test, _=?_, _or_, otherwise, _⇒_∣_, table}
 use Rattle.box_kind.specs.declared.Jp2BoxType.{Jp2BoxType}
 use Rattle.box_kind.specs.declared.Jp2BoxType.the-variants.{None, JPIP, JP, FTYP, JP2H, IHDR, COLR, JP2C, URL, PCLR, CMAP, CDEF, DTBL, BPCC, JP2, RES, JP2I, XML, UUID, UINF, Unknown}
 
+infix 40 _is_
 unfoldable pub kindOf : ℕ → Jp2BoxType
 kindOf n =
     table
@@ -55,53 +55,41 @@ numberOf UUID = 0x75756994
 numberOf UINF = 0x75696e66
 numberOf (Unknown n) = n
 
--- the boxes of the file that are read: jP, ftyp and jp2h
-abbrev pub isFileHeader : Jp2BoxType → Bool
-isFileHeader None = false
-isFileHeader JPIP = false
-isFileHeader JP = true
-isFileHeader FTYP = true
-isFileHeader JP2H = true
-isFileHeader IHDR = false
-isFileHeader COLR = false
-isFileHeader JP2C = false
-isFileHeader URL = false
-isFileHeader PCLR = false
-isFileHeader CMAP = false
-isFileHeader CDEF = false
-isFileHeader DTBL = false
-isFileHeader BPCC = false
-isFileHeader JP2 = false
-isFileHeader RES = false
-isFileHeader JP2I = false
-isFileHeader XML = false
-isFileHeader UUID = false
-isFileHeader UINF = false
-isFileHeader (Unknown n) = false
+-- the place of a kind in this list, by which its name is tested; the kinds that have no name have one place
+abbrev pub tag : Jp2BoxType → ℕ
+tag None = 0
+tag JPIP = 1
+tag JP = 2
+tag FTYP = 3
+tag JP2H = 4
+tag IHDR = 5
+tag COLR = 6
+tag JP2C = 7
+tag URL = 8
+tag PCLR = 9
+tag CMAP = 10
+tag CDEF = 11
+tag DTBL = 12
+tag BPCC = 13
+tag JP2 = 14
+tag RES = 15
+tag JP2I = 16
+tag XML = 17
+tag UUID = 18
+tag UINF = 19
+tag (Unknown n) = 20
 
--- the boxes that are read inside jp2h: ihdr, colr, bpcc, pclr, cmap and cdef
-abbrev pub isImageHeader : Jp2BoxType → Bool
-isImageHeader None = false
-isImageHeader JPIP = false
-isImageHeader JP = false
-isImageHeader FTYP = false
-isImageHeader JP2H = false
-isImageHeader IHDR = true
-isImageHeader COLR = true
-isImageHeader JP2C = false
-isImageHeader URL = false
-isImageHeader PCLR = true
-isImageHeader CMAP = true
-isImageHeader CDEF = true
-isImageHeader DTBL = false
-isImageHeader BPCC = true
-isImageHeader JP2 = false
-isImageHeader RES = false
-isImageHeader JP2I = false
-isImageHeader XML = false
-isImageHeader UUID = false
-isImageHeader UINF = false
-isImageHeader (Unknown n) = false
+-- whether a kind is the one of a name
+abbrev pub _is_ : Jp2BoxType → Jp2BoxType → Test
+k is name = tag k =? tag name
+
+-- the boxes of the file that are read
+abbrev pub isFileHeader : Jp2BoxType → Test
+isFileHeader k = k is JP or k is FTYP or k is JP2H
+
+-- the boxes that are read inside jp2h
+abbrev pub isImageHeader : Jp2BoxType → Test
+isImageHeader k = k is IHDR or k is BPCC or k is COLR or k is PCLR or k is CMAP or k is CDEF
 
 -- a kind that some number has: not None, and not Unknown with the number of a kind that has a name
 abbrev pub Proper : Jp2BoxType → Type 0

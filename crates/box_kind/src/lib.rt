@@ -1,5 +1,6 @@
 // The kinds of box (consts.rs).
 ghost use mathlib.Core.Path.{_≡_};
+ghost use Rattle.box_number.specs.Table.{holds};
 ghost use Rattle.box_kind.specs.Kind.{kindOf, numberOf, isFileHeader, isImageHeader};
 
 pub enum Jp2BoxType {
@@ -85,7 +86,7 @@ impl Jp2BoxType {
 
     // A box of the file itself: jP, ftyp or jp2h.
     pub fn is_file_header(self) -> bool
-        ensures { λ r. ⌜ r ≡ isFileHeader self ⌝ }
+        ensures { λ r. ⌜ r ≡ holds (isFileHeader self) ⌝ }
     {
         match self {
             Jp2BoxType::JP => true,
@@ -97,7 +98,7 @@ impl Jp2BoxType {
 
     // A box that is read inside jp2h.
     pub fn is_image_header(self) -> bool
-        ensures { λ r. ⌜ r ≡ isImageHeader self ⌝ }
+        ensures { λ r. ⌜ r ≡ holds (isImageHeader self) ⌝ }
     {
         match self {
             Jp2BoxType::IHDR => true,

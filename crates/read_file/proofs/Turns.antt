@@ -3,26 +3,24 @@
 use Prim.Native.Nat.{ℕ, suc, _+_, _≤_, _<_}
 use native.Mathlib.Omega.{arith}
 use mathlib.Core.Path.{_≡_, refl, sym, ap, subst, _∙_}
-use mathlib.Core.Bool.{true, false}
+use mathlib.Core.Bool.{true, false, not}
 use mathlib.Core.List.{List, [], _∷_}
-use lib.Dec.{eqb}
-use borrow.Author.Tests.{eqb-true, eqb-false}
+use borrow.Author.Tests.{not-false}
 use types.Run.{OneOf}
 use denote.Enum.Declared.{tagOf}
 use lib.ListN.{length, drop, length-drop}
 use Rattle.box_number.specs.Number.{part}
-use Rattle.box_number.specs.Table.{table}
-use Rattle.box_number.proofs.Rows.{row, each, either, true-false}
-use Rattle.box_kind.specs.Kind.{kindOf, numberOf, isFileHeader, isImageHeader}
+use Rattle.box_number.specs.Table.{_or_, holds}
+use Rattle.box_number.proofs.Rows.{Says, row, each, either, said, not-both}
+use Rattle.box_kind.specs.Kind.{kindOf, tag, _is_, isImageHeader}
 use Rattle.box_header.specs.declared.Jp2BoxHeader.{Jp2BoxHeader}
-use Rattle.box_header.specs.Box.{LBox, TBox, headerLength, boxLength, headerOf}
+use Rattle.box_header.specs.Box.{largest, LBox, TBox, headerLength, boxLength, headerOf}
 use Rattle.box_kind.specs.declared.Jp2BoxType.{Jp2BoxType}
 use Rattle.box_kind.proofs.Jp2BoxType.{the-type}
 use Rattle.box_kind.specs.declared.Jp2BoxType.the-variants.{None, JPIP, JP, FTYP, JP2H, IHDR, COLR, JP2C, URL, PCLR, CMAP, CDEF, DTBL, BPCC, JP2, RES, JP2I, XML, UUID, UINF, Unknown}
-use Rattle.box_kind.proofs.KindNumbers.{kinds-and-numbers, is-kind, not-kind}
+use Rattle.box_kind.proofs.KindNumbers.{by-tag, not-named}
 use Rattle.box_header.proofs.Headers.{box-all}
 use Rattle.read_record.specs.declared.Jp2.{Jp2}
-use Rattle.read_record.specs.State.{headerBit}
 use Rattle.read_record.specs.Answer.{Result, accepted, refused}
 use Rattle.read_jp2h.specs.Split.{Boxes, firstBox, split}
 use Rattle.read_jp2h.specs.HeaderBox.{headerBox}
@@ -31,8 +29,8 @@ use Rattle.read_jp2h.proofs.Faults.{split-none}
 use Rattle.read_file.specs.declared.Reading.{Reading}
 use Rattle.read_file.specs.declared.Found.{Found}
 use Rattle.read_file.specs.declared.Found.the-variants.{Nothing, Codestream, Short, Past, Whole}
-use Rattle.read_file.specs.File.{Walked, ended, turnedDown, thenWalk, stream, pastEnd, outer, run, reading}
-use Rattle.read_file.specs.Turn.{found, Heads, box, boxAt, inner, pastKind}
+use Rattle.read_file.specs.File.{Walked, ended, turnedDown, thenWalk, stream, other, pastEnd, outer, run, reading}
+use Rattle.read_file.specs.Private.Turn.{found, Heads, box, boxAt, isRead, isEarly, header}
 
 -- what was answered is what the definition says; where the file has ended, whatever the record before it
 pub gives : (j : Jp2) (w v : Walked) {r : Reading} → r ≡ reading j w → w ≡ v → r ≡ reading j v
@@ -42,53 +40,67 @@ pub gives-end : (j k : Jp2) (v : Walked) {r : Reading} → r ≡ reading k (ende
 unfolding reading
 gives-end j k v e f = e ∙ ap (reading j) f
 
--- the tags of the kinds other than jP and ftyp
+-- the tags of the kinds other than jp2c
+abbrev pub not-streams : List ℕ
+not-streams = 0 ∷ 1 ∷ 2 ∷ 3 ∷ 4 ∷ 5 ∷ 6 ∷ 8 ∷ 9 ∷ 10 ∷ 11 ∷ 12 ∷ 13 ∷ 14 ∷ 15 ∷ 16 ∷ 17 ∷ 18 ∷ 19 ∷ 20 ∷ []
+
+pub not-stream : {k : Jp2BoxType} (n : ℕ) → k ≡ kindOf n → OneOf not-streams (tagOf the-type k) → tag (kindOf n) ≡ tag JP2C → ⊥
+not-stream {k} n e h t = not-named not-streams k JP2C tt h (ap tag e ∙ t)
+
+-- the tags of jp2h and of the kinds inside it
+abbrev pub headers : List ℕ
+headers = 4 ∷ 5 ∷ 13 ∷ 6 ∷ 9 ∷ 10 ∷ 11 ∷ []
+
+-- a kind of these is jp2h or one inside it
+pub of-header : (k : Jp2BoxType) → OneOf headers (tagOf the-type k) → Says true (k is JP2H or isImageHeader k)
+of-header k h = said true (k is JP2H or isImageHeader k) (not-false _ (sym (by-tag headers (λ l. not (holds (l is JP2H or isImageHeader l))) k (elim k [ None ↦ tt | JPIP ↦ tt | JP ↦ tt | FTYP ↦ tt | JP2H ↦ tt | IHDR ↦ tt | COLR ↦ tt | JP2C ↦ tt | URL ↦ tt | PCLR ↦ tt | CMAP ↦ tt | CDEF ↦ tt | DTBL ↦ tt | BPCC ↦ tt | JP2 ↦ tt | RES ↦ tt | JP2I ↦ tt | XML ↦ tt | UUID ↦ tt | UINF ↦ tt | Unknown n ↦ tt ]) h)))
+
+-- the tags of the kinds that are not read
 abbrev pub others : List ℕ
-others = 0 ∷ 1 ∷ 4 ∷ 5 ∷ 6 ∷ 7 ∷ 8 ∷ 9 ∷ 10 ∷ 11 ∷ 12 ∷ 13 ∷ 14 ∷ 15 ∷ 16 ∷ 17 ∷ 18 ∷ 19 ∷ 20 ∷ []
+others = 0 ∷ 1 ∷ 7 ∷ 8 ∷ 12 ∷ 14 ∷ 15 ∷ 16 ∷ 17 ∷ 18 ∷ 19 ∷ 20 ∷ []
 
-pub not-read : {k : Jp2BoxType} {n : ℕ} → k ≡ kindOf n → OneOf others (tagOf the-type k) → (n ≡ 0x6a502020 → ⊥) × (n ≡ 0x66747970 → ⊥)
-unfolding kindOf table
-not-read e h = (not-kind others 0x6a502020 tt e h, not-kind others 0x66747970 tt e h)
+pub not-read : (k : Jp2BoxType) → OneOf others (tagOf the-type k) → Says false (isRead k)
+not-read k h = said false (isRead k) (sym (by-tag others (λ l. holds (isRead l)) k (elim k [ None ↦ tt | JPIP ↦ tt | JP ↦ tt | FTYP ↦ tt | JP2H ↦ tt | IHDR ↦ tt | COLR ↦ tt | JP2C ↦ tt | URL ↦ tt | PCLR ↦ tt | CMAP ↦ tt | CDEF ↦ tt | DTBL ↦ tt | BPCC ↦ tt | JP2 ↦ tt | RES ↦ tt | JP2I ↦ tt | XML ↦ tt | UUID ↦ tt | UINF ↦ tt | Unknown n ↦ tt ]) h))
 
-pub not-stream : {k : Jp2BoxType} {n : ℕ} → k ≡ kindOf n → OneOf (0 ∷ 1 ∷ 2 ∷ 3 ∷ 4 ∷ 5 ∷ 6 ∷ 8 ∷ 9 ∷ 10 ∷ 11 ∷ 12 ∷ 13 ∷ 14 ∷ 15 ∷ 16 ∷ 17 ∷ 18 ∷ 19 ∷ 20 ∷ []) (tagOf the-type k) → n ≡ 0x6a703263 → ⊥
-unfolding kindOf table
-not-stream e h = not-kind (0 ∷ 1 ∷ 2 ∷ 3 ∷ 4 ∷ 5 ∷ 6 ∷ 8 ∷ 9 ∷ 10 ∷ 11 ∷ 12 ∷ 13 ∷ 14 ∷ 15 ∷ 16 ∷ 17 ∷ 18 ∷ 19 ∷ 20 ∷ []) 0x6a703263 tt e h
+-- the two lengths of a header that was read from c
+pub heads-long : {at : ℕ} {c : List ℕ} {h : Jp2BoxHeader} → Heads at c h → h .length ≡ boxLength c
+heads-long p = ap (λ (x : Jp2BoxHeader). x .length) (p .same)
 
--- the box that a header of c tells
-pub whole-box : {at : ℕ} {c : List ℕ} {h : Jp2BoxHeader} {content : List ℕ} → Heads at c h → content ≡ part c (h .«header_length») (h .length)
-    → box (numberOf (h .ty)) at (at + h .«header_length») content ≡ firstBox at c
-whole-box p e = let t = is-kind (p .ty) refl in let l = p .long in let m = p .head in cc
+pub heads-head : {at : ℕ} {c : List ℕ} {h : Jp2BoxHeader} → Heads at c h → h .«header_length» ≡ headerLength c
+heads-head p = ap (λ (x : Jp2BoxHeader). x .«header_length») (p .same)
 
--- a kind of the file has one of three numbers
-file-number : (k : Jp2BoxType) → (numberOf k ≡ 0x6a502020 → ⊥) → (numberOf k ≡ 0x66747970 → ⊥) → (numberOf k ≡ 0x6a703268 → ⊥) → isFileHeader k ≡ false
-file-number k = elim k [ None ↦ λ p q r. refl | JPIP ↦ λ p q r. refl | JP ↦ λ p q r. absurd (p refl) | FTYP ↦ λ p q r. absurd (q refl) | JP2H ↦ λ p q r. absurd (r refl) | IHDR ↦ λ p q r. refl | COLR ↦ λ p q r. refl | JP2C ↦ λ p q r. refl | URL ↦ λ p q r. refl | PCLR ↦ λ p q r. refl | CMAP ↦ λ p q r. refl | CDEF ↦ λ p q r. refl | DTBL ↦ λ p q r. refl | BPCC ↦ λ p q r. refl | JP2 ↦ λ p q r. refl | RES ↦ λ p q r. refl | JP2I ↦ λ p q r. refl | XML ↦ λ p q r. refl | UUID ↦ λ p q r. refl | UINF ↦ λ p q r. refl | Unknown n ↦ λ p q r. refl ]
+-- the box of a header that was read from c
+pub whole-box : {at : ℕ} {c : List ℕ} {h : Jp2BoxHeader} {content : List ℕ} → Heads at c h → content ≡ part c (h .«header_length») (h .length) → box (h .ty) at (at + h .«header_length») content ≡ firstBox at c
+whole-box p e = let q = p .same in cc
 
--- jp2h is a kind of the file, and none of those inside it
-jp2h-kind : (n : ℕ) → n ≡ 0x6a703268 → (isFileHeader (kindOf n) ≡ true) × (isImageHeader (kindOf n) ≡ false)
-unfolding kindOf table
-jp2h-kind n z = (ap (λ (m : ℕ). isFileHeader (kindOf m)) z, ap (λ (m : ℕ). isImageHeader (kindOf m)) z)
+-- a box of the file that is jp2h or belongs into it
+module _ (kind : Jp2BoxType) (place start : ℕ) (c : List ℕ) (k : Jp2) (of : OneOf headers (tagOf the-type kind)) (room : start + length c ≤ largest) where
+  p : tag kind ≡ tag JP → ⊥
+  p = not-named headers kind JP tt of
 
--- a box of the file that is not jP or ftyp
-module _ (n place start : ℕ) (c : List ℕ) (k : Jp2) (p : n ≡ 0x6a502020 → ⊥) (q : n ≡ 0x66747970 → ⊥) (room : start + length c ≤ 4294967295) where
-  outer-read : (isImageHeader (kindOf n) ≡ true → headerBit k ≡ 0 → ⊥) → (isFileHeader (kindOf n) ≡ false → isImageHeader (kindOf n) ≡ true) → headerBox (kindOf n) place start c k ≡ outer (box n place start c) k
+  q : tag kind ≡ tag FTYP → ⊥
+  q = not-named headers kind FTYP tt of
+
+  outer-read : Says false (isEarly kind (k .status .state)) → headerBox kind place start c k ≡ outer (box kind place start c) k
   unfolding outer
-  outer-read e f = either (eqb n 0x6a703268) at-jp2h at-child
+  outer-read e = either (holds (kind is JP2H)) at-jp2h at-child
     where
-      at-jp2h : eqb n 0x6a703268 ≡ true → headerBox (kindOf n) place start c k ≡ outer (box n place start c) k
-      at-jp2h b = let z = eqb-true n 0x6a703268 b in row 2 _ (p, (q, z)) (box-jp2h (kindOf n) place start c k room (jp2h-kind n z .1))
+      at-jp2h : holds (kind is JP2H) ≡ true → headerBox kind place start c k ≡ outer (box kind place start c) k
+      at-jp2h b = let z = said true (kind is JP2H) b in row 2 _ (p, (q, z)) (box-jp2h kind place start c k room z)
 
-      at-child : eqb n 0x6a703268 ≡ false → headerBox (kindOf n) place start c k ≡ outer (box n place start c) k
-      at-child b =
-          let r = eqb-false n 0x6a703268 b in
-          let m = kinds-and-numbers .number-back n in
-          let i = f (file-number (kindOf n) (λ x. p (sym m ∙ x)) (λ x. q (sym m ∙ x)) (λ x. r (sym m ∙ x))) in
-          row 4 _ (p, (q, (r, (e, i)))) (box-child (kindOf n) place start c k room i)
+      at-child : holds (kind is JP2H) ≡ false → headerBox kind place start c k ≡ outer (box kind place start c) k
+      at-child b = let z = said false (kind is JP2H) b in row 4 _ (p, (q, (z, ((λ _. e z), of-header kind of z)))) (box-child kind place start c k room z)
 
-  pub outer-inner : inner (kindOf n) place start c k ≡ outer (box n place start c) k
-  unfolding inner outer
-  outer-inner =
-      each (λ (x : Result). x ≡ outer (box n place start c) k) _
-      ((λ h. row 3 _ (p, (q, ((λ z. true-false (sym (h .0) ∙ jp2h-kind n z .1)), h))) refl), λ h. ((λ f. outer-read h f), λ f. row 5 _ (p, (q, ((λ z. true-false (sym (jp2h-kind n z .0) ∙ f .0)), (h, (f .1, tt))))) refl))
+  pub outer-header : header kind place start c k ≡ outer (box kind place start c) k
+  unfolding header outer
+  outer-header = each (λ (x : Result). x ≡ outer (box kind place start c) k) _ ((λ h. row 3 _ (p, (q, (h .0, (of-header kind of (h .0), h .1)))) refl), outer-read)
+
+-- a box of the file that is not read
+pub outer-other : (kind : Jp2BoxType) (place start : ℕ) (c : List ℕ) (k : Jp2) → OneOf others (tagOf the-type kind) → other (boxAt kind place start) k ≡ outer (box kind place start c) k
+unfolding outer
+outer-other kind place start c k h =
+    let n = not-read kind h in
+    row 5 _ (n .0 .0, (n .0 .1 .0, (n .0 .1 .1, ((λ i. absurd (not-both (isImageHeader kind) i (n .1))), (n .1, tt))))) refl
 
 then-same : (r : Result) (f g : Jp2 → Walked) → ((m : Jp2) → f m ≡ g m) → thenWalk r f ≡ thenWalk r g
 then-same (accepted m) f g h = h m
@@ -101,12 +113,12 @@ module _ (at : ℕ) (c : List ℕ) (k : Jp2) where
     Runs w = run (split (suc n) at c) k ≡ w
 
     -- no header: the walk has ended
-    run-none : (headerLength c ≤ length c → 4294967295 < boxLength c) → Runs (ended k)
+    run-none : (headerLength c ≤ length c → largest < boxLength c) → Runs (ended k)
     unfolding split run
     run-none h = each (λ (bs : Boxes). run bs k ≡ ended k) _ ((λ z. refl), λ z. ((λ l. refl), λ l. ((λ m. refl), λ m. absurd (omega (arith, h l)))))
 
-    module _ (a : headerLength c ≤ length c) (b : boxLength c ≤ 4294967295) where
-      run-stream : TBox c ≡ 0x6a703263 → Runs (stream (firstBox at c) k)
+    module _ (a : headerLength c ≤ length c) (b : boxLength c ≤ largest) where
+      run-stream : tag (kindOf (TBox c)) ≡ tag JP2C → Runs (stream (firstBox at c) k)
       unfolding split run
       run-stream t =
           each (λ (bs : Boxes). run bs k ≡ stream (firstBox at c) k) _ (
@@ -127,7 +139,7 @@ module _ (at : ℕ) (c : List ℕ) (k : Jp2) where
             ),
           )
 
-      module _ (t : TBox c ≡ 0x6a703263 → ⊥) where
+      module _ (t : tag (kindOf (TBox c)) ≡ tag JP2C → ⊥) where
         run-short : boxLength c < headerLength c → Runs (turnedDown 3 at)
         unfolding split run
         run-short h =
@@ -197,13 +209,13 @@ module _ (at : ℕ) (c : List ℕ) (k : Jp2) where
     -- what stands at c tells how the boxes of c run
     abbrev pub Tells : Found → Type 0
     Tells Nothing = Runs (ended k)
-    Tells (Codestream m) = (m ≤ length c) × Runs (stream (boxAt at (at + m)) k)
+    Tells (Codestream m) = (m ≤ length c) × Runs (stream (boxAt JP2C at (at + m)) k)
     Tells Short = Runs (turnedDown 3 at)
-    Tells (Past h) = Runs (pastKind (h .ty) at k)
+    Tells (Past h) = Runs (pastEnd (boxAt (h .ty) at 0) k)
     Tells (Whole h) = (h ≡ headerOf c) × (headerLength c ≤ boxLength c) × (boxLength c ≤ length c) × Runs (thenWalk (outer (firstBox at c) k) (λ m. run (split n (at + boxLength c) (drop (boxLength c) c)) m))
 
     pub found-tells : {r f : Found} → r ≡ found c → r ≡ f → Tells f
-    unfolding found pastKind
+    unfolding found
     found-tells e f =
         subst Tells (sym e ∙ f)
         (each Tells _ (

@@ -8,7 +8,9 @@ use lib.ListN.{length, take, drop, length-drop}
 use Rattle.box_number.proofs.Rows.{row}
 use Rattle.box_number.proofs.Numbers.{rest-is}
 use Rattle.box_header.proofs.Headers.{header-least}
+use Rattle.box_header.specs.Box.{largest}
 use Rattle.box_header.specs.declared.Jp2BoxHeader.{Jp2BoxHeader}
+use Rattle.box_kind.specs.declared.Jp2BoxType.the-variants.{JP2C}
 use Rattle.read_record.specs.declared.Jp2.{Jp2}
 use Rattle.read_record.specs.declared.Outcome.{Outcome}
 use Rattle.read_record.specs.declared.Answer.the-variants.{Done, Refused}
@@ -18,18 +20,18 @@ use Rattle.read_jp2h.specs.Split.{firstBox, split, boxes}
 use Rattle.read_jp2h.proofs.Faults.{split-none}
 use Rattle.read_file.specs.declared.Found.{Found}
 use Rattle.read_file.specs.declared.Found.the-variants.{Nothing, Codestream, Short, Past, Whole}
-use Rattle.read_file.specs.File.{Walked, ended, turnedDown, stream, outer, run, walk}
-use Rattle.read_file.specs.Turn.{found, Heads, boxAt, pastKind}
-use Rattle.read_file.proofs.Turns.{found-tells}
+use Rattle.read_file.specs.File.{Walked, ended, turnedDown, stream, pastEnd, outer, run, walk}
+use Rattle.read_file.specs.Private.Turn.{found, Heads, boxAt}
+use Rattle.read_file.proofs.Turns.{heads-long, found-tells}
 
 -- c, at a place of the file, is what is left: run from the record k it comes to w
 pub record Going (w : Walked) (at : ℕ) (c : List ℕ) (k : Jp2) : Type 0 where
   pub fuel : ℕ
   pub enough : length c ≤ fuel
-  pub room : at + length c ≤ 4294967295
+  pub room : at + length c ≤ largest
   pub same : run (split fuel at c) k ≡ w
 
-pub going-start : (f : List ℕ) (j : Jp2) → length f ≤ 4294967295 → Going (run (boxes 0 f) j) 0 f j
+pub going-start : (f : List ℕ) (j : Jp2) → length f ≤ largest → Going (run (boxes 0 f) j) 0 f j
 going-start f j h = record { fuel = length f; enough = omega arith; room = omega arith; same = refl }
 
 module _ {w : Walked} {at : ℕ} {c : List ℕ} {k : Jp2} (g : Going w at c k) where
@@ -56,33 +58,34 @@ module _ {w : Walked} {at : ℕ} {c : List ℕ} {k : Jp2} (g : Going w at c k) w
     pub going-header : {m : ℕ} → r ≡ Codestream m → m ≤ length c
     going-header f = found-tells at c k 0 some e f .0
 
-    pub going-stream : {m : ℕ} → r ≡ Codestream m → stream (boxAt at (at + m)) k ≡ w
+    pub going-stream : {m : ℕ} → r ≡ Codestream m → stream (boxAt JP2C at (at + m)) k ≡ w
     going-stream f = runs-to (λ n. found-tells at c k n some e f .1)
 
     pub going-short : r ≡ Short → turnedDown 3 at ≡ w
     going-short f = runs-to (λ n. found-tells at c k n some e f)
 
-    pub going-past : {h : Jp2BoxHeader} → r ≡ Past h → pastKind (h .ty) at k ≡ w
+    pub going-past : {h : Jp2BoxHeader} → r ≡ Past h → pastEnd (boxAt (h .ty) at 0) k ≡ w
     going-past f = runs-to (λ n. found-tells at c k n some e f)
 
     module _ {h : Jp2BoxHeader} (f : r ≡ Whole h) where
       pub going-heads : Heads at c h
-      going-heads =
-          let t = found-tells at c k 0 some e f in
-          record { ty = ap (λ (x : Jp2BoxHeader). x .ty) (t .0); long = ap (λ (x : Jp2BoxHeader). x .length) (t .0); head = ap (λ (x : Jp2BoxHeader). x .«header_length») (t .0); least = t .1; most = t .2; room = g .room }
+      going-heads = let t = found-tells at c k 0 some e f in record { same = t .0; least = t .1; most = t .2; room = g .room }
 
       pub going-fits : (8 ≤ h .length) × (h .length ≤ length c)
-      going-fits = let p = going-heads in omega (arith, header-least c, p .long, p .least, p .most)
+      going-fits = let p = going-heads in omega (arith, header-least c, heads-long p, p .least, p .most)
 
-      pub going-less : length (take (length c - h .length) (drop (h .length) c)) < length c
-      going-less = let q = going-fits in rw (rest-is c (h .length), length-drop) (omega arith)
+      -- n is how far the next box is from this one
+      pub going-less : {n : ℕ} → n ≡ 0 + h .length → length (take (length c - n) (drop n c)) < length c
+      going-less {n} z = let q = going-fits in rw (rest-is c n, length-drop) (omega arith)
 
       module _ {o : Outcome} (d : o ≡ answer k (outer (firstBox at c) k)) where
         pub going-down : {n p : ℕ} → o .answer ≡ Refused n p → turnedDown n p ≡ w
         going-down a = runs-to (λ n. found-tells at c k n some e f .3 ∙ rw (answer-refused k (outer (firstBox at c) k) d a))
 
-        pub going-on : o .answer ≡ Done → Going w (at + h .length) (take (length c - h .length) (drop (h .length) c)) (o .jp2)
-        going-on a = rw (rest-is c (h .length)) (with-fuel (λ (n : ℕ). length c ≤ n → run (split n at c) k ≡ w → Going w (at + h .length) (drop (h .length) c) (o .jp2)) on (g .enough) (g .same))
+        pub going-on : {n i : ℕ} → o .answer ≡ Done → n ≡ 0 + h .length → i ≡ at + h .length → Going w i (take (length c - n) (drop n c)) (o .jp2)
+        going-on {n} {i} a m p =
+            let z : n ≡ h .length = omega arith in
+            rw (rest-is c n, z, p) (with-fuel (λ (n : ℕ). length c ≤ n → run (split n at c) k ≡ w → Going w (at + h .length) (drop (h .length) c) (o .jp2)) on (g .enough) (g .same))
           where
             on : (n : ℕ) → length c ≤ suc n → run (split (suc n) at c) k ≡ w → Going w (at + h .length) (drop (h .length) c) (o .jp2)
             on n l s =
@@ -91,10 +94,10 @@ module _ {w : Walked} {at : ℕ} {c : List ℕ} {k : Jp2} (g : Going w at c k) w
                   fuel = n;
                   enough = rw length-drop (omega arith);
                   room = rw length-drop (omega (arith, g .room));
-                  same = rw (going-heads .long) (rw (answer-done k (outer (firstBox at c) k) d a) at (sym (found-tells at c k n some e f .3) ∙ s));
+                  same = rw (heads-long going-heads) (rw (answer-done k (outer (firstBox at c) k) d a) at (sym (found-tells at c k n some e f .3) ∙ s));
                 }
 
 -- the ways through the walk
-pub walked : (f : List ℕ) (j : Jp2) {w : Walked} → length f ≤ 4294967295 → w ≡ run (boxes 0 f) j → w ≡ walk f j
+pub walked : (f : List ℕ) (j : Jp2) {w : Walked} → length f ≤ largest → w ≡ run (boxes 0 f) j → w ≡ walk f j
 unfolding walk
 walked f j h e = row 1 _ (h, tt) e

@@ -2,8 +2,10 @@
 use Prim.Native.Nat.{ℕ}
 use mathlib.Core.List.{List}
 use lib.ListN.{length}
-use Rattle.box_number.specs.Table.{Test, _=?_, _<?_, flag, _or_, _and_, otherwise, _⇒_∣_, table}
-use Rattle.box_kind.specs.Kind.{kindOf, isFileHeader, isImageHeader}
+use Rattle.box_number.specs.Table.{Test, _=?_, _<?_, _or_, _and_, otherwise, _⇒_∣_, table}
+use Rattle.box_kind.specs.Kind.{_is_, isFileHeader, isImageHeader}
+use Rattle.box_kind.specs.declared.Jp2BoxType.the-variants.{JP, FTYP, JP2H, JP2C}
+use Rattle.box_header.specs.Box.{largest}
 use Rattle.read_record.specs.declared.Jp2.{Jp2}
 use Rattle.read_record.specs.Record.{blank, withState}
 use Rattle.read_record.specs.State.{signatureBit, fileTypeBit, headerBit, withBit, withUnknown}
@@ -16,7 +18,7 @@ use Rattle.read_jp2h.specs.Jp2h.{jp2h}
 use Rattle.read_file.specs.declared.FileAnswer.the-variants.{Codestream, Ended, Refused}
 use Rattle.read_file.specs.declared.Reading.{Reading}
 
--- what reading a file comes to: the codestream's offset and the record, "ended" and the record, or a number and the place
+-- the result of reading a file: the codestream's offset and the record, "ended" and the record, or a number and the place
 pub data Walked : Type 0 where
   codestream : ℕ → Jp2 → Walked
   ended : Jp2 → Walked
@@ -26,23 +28,14 @@ abbrev pub thenWalk : Result → (Jp2 → Walked) → Walked
 thenWalk (accepted k) next = next k
 thenWalk (refused number place) next = turnedDown number place
 
--- 'jp2c'
 abbrev pub isStream : Box → Test
-isStream b = b .type =? 0x6a703263
+isStream b = b .kind is JP2C
 
 -- I.5.4: the codestream is reached once the header bit is set
 abbrev pub stream : Box → Jp2 → Walked
 stream b k = table (headerBit k =? 0 ⇒ turnedDown 2 (b .place) ∣ otherwise (codestream (b .start) (withState (withBit 8 (k .status .state)) k)))
 
--- ihdr, bpcc, colr, pclr, cmap and cdef, which belong into jp2h
-abbrev pub ofHeader : Box → Test
-ofHeader b = flag (isImageHeader (kindOf (b .type)))
-
--- jP, ftyp and jp2h
-abbrev pub ofFile : Box → Test
-ofFile b = flag (isFileHeader (kindOf (b .type)))
-
--- any other box may not come before signature and file type; the state's unknown bits tell of it, and the header bit is one of them (difference 15)
+-- any other box may not come before signature and file type; it sets the unknown bits of the state, and the header bit is one of them (difference 15)
 abbrev pub other : Box → Jp2 → Result
 other b k =
     table
@@ -50,20 +43,20 @@ other b k =
     ∣ fileTypeBit k =? 0 ⇒ refused 6 (b .place)
     ∣ otherwise (accepted (withUnknown k)))
 
--- a box of the file. A box of jp2h that stands outside is read too once the header bit is set, and skipped before (difference 13).
+-- a box of the file, by its kind. A box of jp2h that stands outside is read too once the header bit is set, and skipped before (difference 13).
 unfoldable pub outer : Box → Jp2 → Result
 outer b k =
     table
-    (b .type =? 0x6a502020 ⇒ signature (b .place) (b .start) (b .content) k
-    ∣ b .type =? 0x66747970 ⇒ fileType (b .place) (b .start) (b .content) k
-    ∣ b .type =? 0x6a703268 ⇒ jp2h (b .place) (b .start) (b .content) k
-    ∣ ofHeader b and headerBit k =? 0 ⇒ accepted (withUnknown k)
-    ∣ ofHeader b ⇒ child b k
+    (b .kind is JP ⇒ signature (b .place) (b .start) (b .content) k
+    ∣ b .kind is FTYP ⇒ fileType (b .place) (b .start) (b .content) k
+    ∣ b .kind is JP2H ⇒ jp2h (b .place) (b .start) (b .content) k
+    ∣ isImageHeader (b .kind) and headerBit k =? 0 ⇒ accepted (withUnknown k)
+    ∣ isImageHeader (b .kind) ⇒ child b k
     ∣ otherwise (other b k))
 
 -- a box whose content reaches past the end: the file has ended there, unless the box is one that is read
 abbrev pub pastEnd : Box → Jp2 → Walked
-pastEnd b k = table (ofFile b or ofHeader b ⇒ turnedDown 4 (b .place) ∣ otherwise (thenWalk (other b k) ended))
+pastEnd b k = table (isFileHeader (b .kind) or isImageHeader (b .kind) ⇒ turnedDown 4 (b .place) ∣ otherwise (thenWalk (other b k) ended))
 
 -- a box that lies in the file, and what comes after it
 abbrev pub whole : Box → Jp2 → (Jp2 → Walked) → Walked
@@ -81,7 +74,7 @@ run (b ▸ bs) k = whole b k (λ m. run bs m)
 
 -- a file read from a record on
 unfoldable pub walk : List ℕ → Jp2 → Walked
-walk f j = table (4294967295 <? length f ⇒ turnedDown 1 0 ∣ otherwise (run (boxes 0 f) j))
+walk f j = table (largest <? length f ⇒ turnedDown 1 0 ∣ otherwise (run (boxes 0 f) j))
 
 -- a file read from the record before any box
 abbrev pub read : List ℕ → Walked

@@ -1,2 +1,2 @@
 pub mod File
-pub mod Turn
+pub mod Private

@@ -3,19 +3,33 @@ ghost use Prim.Native.Nat.{_+_, _≤_};
 ghost use mathlib.Core.Path.{_≡_};
 ghost use lib.ListN.{length};
 ghost use Rattle.box_number.specs.Table.{holds};
-ghost use Rattle.box_kind.specs.Kind.{kindOf, numberOf};
+ghost use Rattle.box_kind.specs.declared.Jp2BoxType.the-variants.{JP2C};
+ghost use Rattle.box_header.specs.Box.{largest};
 ghost use Rattle.read_record.specs.Record.{blank};
 ghost use Rattle.read_record.specs.State.{withBit, unknown, withUnknown};
 ghost use Rattle.read_record.specs.Answer.{accepted, answer};
-ghost use Rattle.read_file.specs.File.{ended, turnedDown, stream, other, outer, walk, read, reading};
-ghost use Rattle.read_file.specs.Turn.{found, Heads, box, boxAt, isRead, isEarly, inner, pastKind};
 ghost use Rattle.read_jp2h.specs.Split.{firstBox};
+ghost use Rattle.read_file.specs.File.{ended, turnedDown, stream, other, pastEnd, outer, walk, read, reading};
+ghost use Rattle.read_file.specs.Private.Turn.{found, Heads, box, boxAt, isRead, isEarly, header};
 use box_header::Jp2BoxHeader;
+use box_header::LARGEST;
 use box_header::ReadHeader;
 use box_kind::Jp2BoxType;
 use read_record::Answer;
 use read_record::Jp2;
 use read_record::Outcome;
+
+// The bits of jp2_state: file type, header, codestream, and all 31 low bits, which tell of a box that was skipped. The signature's is the lowest.
+const FILE_TYPE: u32 = 2;
+
+const HEADER: u32 = 4;
+
+const CODESTREAM: u32 = 8;
+
+const UNKNOWN: u32 = 2147483647;
+
+// The bit above the 31 low ones.
+const HIGH: u32 = 2147483648;
 
 // What reading a file answers: the codestream's offset, "ended", or document 01's number and the place.
 pub enum FileAnswer {
@@ -31,7 +45,7 @@ pub struct Reading {
 }
 
 // What stands at a place of the file: no box, the codestream with its header's length, a box that is shorter than its header, one that reaches past the end, or a whole one.
-// The last two have the header as it was read: a kind alone would lie elsewhere, and be put together from its bytes at each box.
+// The last two have the header as it was read: a kind alone would be put together from its bytes at each box.
 pub enum Found {
     Nothing,
     Codestream(u32),
@@ -53,7 +67,7 @@ fn find_box(c: &[u8]) -> Found
     if h.length < h.header_length {
         return Found::Short;
     }
-    if c.len() < h.length as usize {
+    if c.len() < h.next(0) {
         return Found::Past(h);
     }
     Found::Whole(h)
@@ -81,25 +95,25 @@ fn over(k: Jp2) -> Reading
 fn with_unknown(state: u32) -> u32
     ensures { λ r. ⌜ r ≡ unknown state ⌝ }
 {
-    state / 2147483648 * 2147483648 + 2147483647
+    state / HIGH * HIGH + UNKNOWN
 }
 
 // A state with the codestream bit.
 fn with_stream(state: u32) -> u32
     ensures { λ r. ⌜ r ≡ withBit 8 state ⌝ }
 {
-    if state / 8 % 2 == 0 {
-        return state + 8;
+    if state / CODESTREAM % 2 == 0 {
+        return state + CODESTREAM;
     }
     state
 }
 
 // The codestream box, whose content starts at start; j is the record before the file.
 fn read_stream(at: u32, start: u32, k: Jp2, j: Jp2) -> Reading
-    ensures { λ r. ⌜ r ≡ reading j (stream (boxAt at start) k) ⌝ }
+    ensures { λ r. ⌜ r ≡ reading j (stream (boxAt JP2C at start) k) ⌝ }
 {
     let mut status = k.status;
-    if status.state / 4 % 2 == 0 {
+    if status.state / HEADER % 2 == 0 {
         return turned_down(2, at, j);
     }
     status.state = with_stream(status.state);
@@ -122,15 +136,15 @@ fn skip(k: Jp2) -> Outcome
     Outcome::done(m)
 }
 
-// A box that is not read: it is skipped once signature and file type have come.
-fn read_other(at: u32, start: u32, k: Jp2) -> Outcome
-    ensures { λ r. ⌜ r ≡ answer k (other (boxAt at start) k) ⌝ }
+// A box that is not read: it is skipped once signature and file type were read.
+fn read_other(ty: Jp2BoxType, at: u32, start: u32, k: Jp2) -> Outcome
+    ensures { λ r. ⌜ r ≡ answer k (other (boxAt ty at start) k) ⌝ }
 {
     let status = k.status;
     if status.state % 2 == 0 {
         return Outcome::refused(5, at, k);
     }
-    if status.state / 2 % 2 == 0 {
+    if status.state / FILE_TYPE % 2 == 0 {
         return Outcome::refused(6, at, k);
     }
     skip(k)
@@ -146,50 +160,54 @@ fn is_read(ty: Jp2BoxType) -> bool
     ty.is_image_header()
 }
 
-// Whether this is a box of jp2h that comes before the header bit is set.
+// Whether this is a box outside jp2h before the header bit is set.
 fn is_early(ty: Jp2BoxType, state: u32) -> bool
     ensures { λ r. ⌜ r ≡ holds (isEarly ty state) ⌝ }
 {
-    if ty.is_image_header() {
-        return state / 4 % 2 == 0;
+    if let Jp2BoxType::JP2H = ty {
+        return false;
     }
-    false
+    state / HEADER % 2 == 0
 }
 
-// A box of the file other than jP and ftyp.
-fn read_inner(ty: Jp2BoxType, c: &[u8], at: u32, start: u32, k: Jp2) -> Outcome
-    ensures { λ r. ⌜ r ≡ answer k (inner ty at start (now (c .entry)) k) ⌝ }
+// jp2h, or a box of it that stands outside. Such a box is skipped before the header bit is set.
+fn read_header(ty: Jp2BoxType, c: &[u8], at: u32, start: u32, k: Jp2) -> Outcome
+    ensures { λ r. ⌜ r ≡ answer k (header ty at start (now (c .entry)) k) ⌝ }
 {
     let status = k.status;
     if is_early(ty, status.state) {
         return skip(k);
     }
-    if is_read(ty) {
-        return read_jp2h::read_header_box(ty, c, at, start, k);
-    }
-    read_other(at, start, k)
+    read_jp2h::read_header_box(ty, c, at, start, k)
 }
 
 // The content of a box of the file, by the reader of its kind.
 fn read_outer(ty: Jp2BoxType, c: &[u8], at: u32, start: u32, k: Jp2) -> Outcome
-    requires { ⌜ (ty ≡ kindOf (numberOf ty)) × (start + length (now c) ≤ 4294967295) ⌝ }
-    ensures { λ r. ⌜ r ≡ answer k (outer (box (numberOf ty) at start (now (c .entry))) k) ⌝ }
+    requires { ⌜ start + length (now c) ≤ largest ⌝ }
+    ensures { λ r. ⌜ r ≡ answer k (outer (box ty at start (now (c .entry))) k) ⌝ }
 {
     match ty {
         Jp2BoxType::JP => read_signature::opj_jp2_read_jp(c, at, start, k),
         Jp2BoxType::FTYP => read_signature::opj_jp2_read_ftyp(c, at, start, k),
-        _ => read_inner(ty, c, at, start, k),
+        Jp2BoxType::JP2H
+        | Jp2BoxType::IHDR
+        | Jp2BoxType::BPCC
+        | Jp2BoxType::COLR
+        | Jp2BoxType::PCLR
+        | Jp2BoxType::CMAP
+        | Jp2BoxType::CDEF => read_header(ty, c, at, start, k),
+        _ => read_other(ty, at, start, k),
     }
 }
 
 // A box that reaches past the end; j is the record before the file.
 fn read_past(ty: Jp2BoxType, at: u32, k: Jp2, j: Jp2) -> Reading
-    ensures { λ r. ⌜ r ≡ reading j (pastKind ty at k) ⌝ }
+    ensures { λ r. ⌜ r ≡ reading j (pastEnd (boxAt ty at 0) k) ⌝ }
 {
     if is_read(ty) {
         return turned_down(4, at, j);
     }
-    let outcome = read_other(at, 0, k);
+    let outcome = read_other(ty, at, 0, k);
     let answer = outcome.answer;
     if let Answer::Refused(n, p) = answer {
         return turned_down(n, p, j);
@@ -202,17 +220,18 @@ fn read_whole(c: &[u8], at: u32, h: Jp2BoxHeader, k: Jp2) -> Outcome
     requires { ⌜ Heads at (now c) h ⌝ }
     ensures { λ r. ⌜ r ≡ answer k (outer (firstBox at (now (c .entry))) k) ⌝ }
 {
-    let content = box_number::part(c, h.header_length as usize, h.length as usize);
+    let head = h.header_length as usize;
+    let content = box_number::part(c, head, head + h.content_length() as usize);
     let start = at + h.header_length;
     let ty = h.ty;
     read_outer(ty, content, at, start, k)
 }
 
-// A file, read from a record on. What stands at a place is told without the record, so that a turn copies it no more often than its reader does.
+// A file, read from a record on. `find_box` has no record, so that a turn copies it no more often than its reader does.
 pub fn opj_jp2_read_header_procedure(s: &[u8], j: Jp2) -> Reading
     ensures { λ r. ⌜ r ≡ reading j (walk (now (s .entry)) j) ⌝ }
 {
-    if 4294967295 < s.len() {
+    if LARGEST < s.len() {
         return turned_down(1, 0, j);
     }
     let mut k = j;
@@ -240,9 +259,9 @@ pub fn opj_jp2_read_header_procedure(s: &[u8], j: Jp2) -> Reading
                 if let Answer::Refused(n, p) = answer {
                     return turned_down(n, p, j);
                 }
-                let size = h.length as usize;
+                let size = h.next(0);
                 rest = &rest[size..];
-                at = at + h.length;
+                at = h.next(at) as u32;
                 k = outcome.jp2;
             }
         }

@@ -1,4 +1,4 @@
--- What the tests of a child's header come to, and one turn of the splitting into boxes.
+-- The tests of a child's header, and one turn of the splitting into boxes.
 -- Assumes nothing.
 use Prim.Native.Nat.{ℕ, zero, suc, _+_, _≤_, _<_}
 use native.Mathlib.Omega.{arith}
@@ -12,15 +12,15 @@ use Rattle.read_record.specs.declared.Jp2.{Jp2}
 use Rattle.read_record.specs.Answer.{refused}
 use Rattle.read_jp2h.specs.Split.{Boxes, noBytes, _▸_, firstBox, split}
 use Rattle.read_jp2h.specs.Jp2h.{readAll}
-use Rattle.read_jp2h.specs.Step.{fault, firstItem, nextChild}
+use Rattle.read_jp2h.specs.Private.Step.{fault, firstItem, nextChild}
 use Rattle.read_jp2h.specs.declared.Item.{Item}
 use Rattle.read_jp2h.specs.declared.Next.{Next}
 use Rattle.read_jp2h.specs.declared.Next.the-variants.{Nothing, Fault, Found}
 
 module _ (at : ℕ) (c : List ℕ) where
-  -- the box that a header of c tells
+  -- the box of a header
   abbrev itemOf : Jp2BoxHeader → Item
-  itemOf h = record { ty = h .ty; place = at; head = h .«header_length»; size = h .length }
+  itemOf h = record { place = at; header = h }
 
   pub next-none : length c ≡ 0 → Nothing ≡ nextChild at c
   unfolding nextChild
@@ -35,7 +35,7 @@ module _ (at : ℕ) (c : List ℕ) where
     unfolding nextChild
     next-found e z = row 2 _ (some, (z, tt)) (ap (λ (h : Jp2BoxHeader). Found (itemOf h)) e)
 
-  -- and back: what was found tells the fault
+  -- and back: the fault, by what was found
   abbrev Tells : Next → Type 0
   Tells Nothing = length c ≡ 0
   Tells (Fault n) = (0 < length c) × (n ≡ fault c) × (fault c ≡ 0 → ⊥)
@@ -84,7 +84,7 @@ module _ (at : ℕ) (c : List ℕ) where
   unfolding split
   split-more n l f = let w = sound c f in sym (row 6 _ (omega arith, (w .header, (w .low, (w .some, (w .least, (w .most, tt)))))) refl)
 
-  -- a child with a fault is turned down, however the split has ended there
+  -- a child with a fault is refused, however the split has ended there
   pub split-fault : (n : ℕ) (k : Jp2) → 0 < length c → (fault c ≡ 0 → ⊥) → readAll (split (suc n) at c) k ≡ refused (fault c) at
   unfolding split readAll
   split-fault n k l f =

@@ -5,18 +5,16 @@ use native.Mathlib.Omega.{arith}
 use mathlib.Core.Path.{_≡_, refl, sym, ap, subst, _∙_}
 use mathlib.Core.Bool.{Bool, true, false, not, _&&_}
 use mathlib.Core.List.{List}
-use lib.Dec.{eqb}
 use lib.ListN.{length, take, drop, length-drop}
 use lib.Seq.{take-all}
 use Rattle.box_number.specs.Number.{part}
-use Rattle.box_number.specs.Table.{pick}
-use Rattle.box_number.proofs.Rows.{true-false}
+use Rattle.box_number.specs.Table.{holds, pick}
 use Rattle.box_number.proofs.Numbers.{rest-is}
-use Rattle.box_kind.specs.Kind.{kindOf, numberOf}
-use Rattle.box_header.specs.Box.{TBox, boxLength}
+use Rattle.box_kind.specs.Kind.{kindOf, _is_}
+use Rattle.box_header.specs.Box.{largest, TBox, boxLength}
 use Rattle.box_kind.specs.declared.Jp2BoxType.{Jp2BoxType}
+use Rattle.box_kind.specs.declared.Jp2BoxType.the-variants.{IHDR}
 use Rattle.box_header.proofs.Headers.{header-least}
-use Rattle.box_kind.proofs.KindNumbers.{is-kind, proper-kind}
 use Rattle.read_record.specs.declared.Jp2.{Jp2}
 use Rattle.read_record.specs.declared.Outcome.{Outcome}
 use Rattle.read_record.specs.declared.Answer.the-variants.{Done, Refused}
@@ -28,7 +26,7 @@ use Rattle.read_jp2h.specs.declared.Next.the-variants.{Nothing, Fault, F
 use Rattle.read_jp2h.specs.Split.{split}
 use Rattle.read_jp2h.specs.Child.{reader}
 use Rattle.read_jp2h.specs.Jp2h.{readAll, lacksIhdr}
-use Rattle.read_jp2h.specs.Step.{fault, loneItem, firstItem, next, readItem}
+use Rattle.read_jp2h.specs.Private.Step.{fault, loneItem, firstItem, next, readItem}
 use Rattle.read_jp2h.proofs.Faults.{next-tells, sound, split-none, split-more, split-fault}
 
 -- what is left, a box that is alone or the boxes of c, is read to w; l is whether an ihdr lacks then
@@ -39,16 +37,15 @@ Left false kind place w l fuel at c lacks k = (readAll (split fuel at c) k ≡ w
 pub record Going (kind : Jp2BoxType) (place : ℕ) (w : Result) (l lone : Bool) (at : ℕ) (c : List ℕ) (lacks : Bool) (k : Jp2) : Type 0 where
   pub fuel : ℕ
   pub enough : length c ≤ fuel
-  pub room : at + length c ≤ 4294967295
+  pub room : at + length c ≤ largest
   pub left : Left lone kind place w l fuel at c lacks k
 
 -- a box that was found lies in c, and what its reader answers tells of the whole
 pub record Here (kind : Jp2BoxType) (place : ℕ) (w : Result) (l : Bool) (at : ℕ) (c : List ℕ) (lacks : Bool) (k : Jp2) (b : Item) : Type 0 where
-  pub head : b .head ≤ length c
-  pub size : b .size ≤ length c
-  pub proper : lacks ≡ true → b .ty ≡ kindOf (numberOf (b .ty))
+  pub head : b .header .«header_length» ≤ length c
+  pub size : b .header .length ≤ length c
   pub stop : {n p : ℕ} → readItem b at c k ≡ refused n p → w ≡ refused n p
-  pub on : {m : Jp2} {lack : Bool} → readItem b at c k ≡ accepted m → lack ≡ (not (eqb (numberOf (b .ty)) 0x69686472) && lacks) → Going kind place w l false (at + b .size) (drop (b .size) c) lack m
+  pub on : {m : Jp2} {lack : Bool} → readItem b at c k ≡ accepted m → lack ≡ (not (holds (b .header .ty is IHDR)) && lacks) → Going kind place w l false (at + b .header .length) (drop (b .header .length) c) lack m
 
 -- the turns that are left are bounded by this
 abbrev pub turns : Bool → List ℕ → ℕ
@@ -93,14 +90,13 @@ module _ {kind : Jp2BoxType} {place : ℕ} {w : Result} {l : Bool} {at : ℕ} {c
       record {
         head = omega arith;
         size = omega arith;
-        proper = λ t. true-false (sym t ∙ g .left .1);
         stop = λ e. sym (g .left .0) ∙ whole e;
         on = λ {m} {lack} e h.
             record {
               fuel = 0;
               enough = rw length-drop (omega arith);
               room = rw length-drop (omega (arith, g .room));
-              left = (sym (whole e) ∙ g .left .0, h ∙ rw (g .left .1, g .left .2) (and-no (not (eqb (numberOf kind) 0x69686472))));
+              left = (sym (whole e) ∙ g .left .0, h ∙ rw (g .left .1, g .left .2) (and-no (not (holds (kind is IHDR)))));
             };
       }
     where
@@ -114,14 +110,13 @@ module _ {kind : Jp2BoxType} {place : ℕ} {w : Result} {l : Bool} {at : ℕ} {c
       record {
         head = omega (arith, q .header);
         size = omega (arith, q .most);
-        proper = λ t. proper-kind (TBox c) refl;
         stop = λ {n} {p} e. with-fuel some g (λ (m : ℕ). readAll (split m at c) k ≡ w → w ≡ refused n p) (λ m s. sym s ∙ rw (split-more at c m some z, e)) (g .left .0);
         on = λ {m} {lack} e h. with-fuel some g (λ (n : ℕ). length c ≤ n → readAll (split n at c) k ≡ w → (lacksIhdr (split n at c) && lacks) ≡ l → Going kind place w l false (at + boxLength c) (drop (boxLength c) c) lack m) (λ n b s t.
             record {
               fuel = n;
               enough = rw length-drop (omega (arith, header-least c, q .least));
               room = rw length-drop (omega (arith, g .room, q .most));
-              left = (rw (split-more at c n some z, e) at s, rw h (rw (sym (is-kind {n = TBox c} refl refl)) (sym (and-swap (not (eqb (TBox c) 0x69686472)) (lacksIhdr (split n (at + boxLength c) (drop (boxLength c) c))) lacks)) ∙ rw (split-more at c n some z) at t));
+              left = (rw (split-more at c n some z, e) at s, rw h (sym (and-swap (not (holds (kindOf (TBox c) is IHDR))) (lacksIhdr (split n (at + boxLength c) (drop (boxLength c) c))) lacks) ∙ rw (split-more at c n some z) at t));
             }) (g .enough) (g .left .0) (g .left .1);
       }
 
@@ -131,20 +126,23 @@ module _ {kind : Jp2BoxType} {place : ℕ} {w : Result} {l : Bool} {at : ℕ} {c
       subst (Here kind place w l at c lacks k) q (here-lone g)
   here false g e f = let t = next-tells at c e f in subst (Here kind place w l at c lacks k) (sym (t .1)) (here-child (t .0) (t .2) g)
 
-  pub going-less : (lone : Bool) → Going kind place w l lone at c lacks k → {r : Next} {b : Item} → r ≡ next lone kind place at c → r ≡ Found b → turns false (take (length c - b .size) (drop (b .size) c)) < turns lone c
-  going-less true g {r} {b} e f =
+  -- n is how far the next box is from this one
+  pub going-less : (lone : Bool) → Going kind place w l lone at c lacks k → {r : Next} {b : Item} {n : ℕ} → r ≡ next lone kind place at c → r ≡ Found b → n ≡ 0 + b .header .length → turns false (take (length c - n) (drop n c)) < turns lone c
+  going-less true g {r} {b} {n} e f h =
       let q : loneItem kind place c ≡ b = cc in
-      let n : length c ≡ b .size = ap (λ (x : Item). x .size) q in
-      rw (rest-is c (b .size), length-drop) (omega arith)
-  going-less false g {r} {b} e f =
+      let z : length c ≡ b .header .length = ap (λ (x : Item). x .header .length) q in
+      rw (rest-is c n, length-drop) (omega arith)
+  going-less false g {r} {b} {n} e f h =
       let t = next-tells at c e f in
-      let n : b .size ≡ boxLength c = ap (λ (x : Item). x .size) (t .1) in
-      rw (rest-is c (b .size), length-drop) (omega (arith, header-least c, sound c (t .2) .least))
+      let z : b .header .length ≡ boxLength c = ap (λ (x : Item). x .header .length) (t .1) in
+      rw (rest-is c n, length-drop) (omega (arith, header-least c, sound c (t .2) .least))
 
   module _ {b : Item} (h : Here kind place w l at c lacks k b) {o : Outcome} (d : o ≡ answer k (readItem b at c k)) where
     pub going-stop : {n p : ℕ} → o .answer ≡ Refused n p → w ≡ refused n p
     going-stop a = h .stop (answer-refused k (readItem b at c k) d a)
 
-    pub going-on : {lack : Bool} → o .answer ≡ Done → lack ≡ (not (eqb (numberOf (b .ty)) 0x69686472) && lacks)
-        → Going kind place w l false (at + b .size) (take (length c - b .size) (drop (b .size) c)) lack (o .jp2)
-    going-on a q = rw (rest-is c (b .size)) (h .on (answer-done k (readItem b at c k) d a) q)
+    pub going-on : {lack : Bool} {n i : ℕ} → o .answer ≡ Done → n ≡ 0 + b .header .length → i ≡ at + b .header .length → lack ≡ (not (holds (b .header .ty is IHDR)) && lacks)
+        → Going kind place w l false i (take (length c - n) (drop n c)) lack (o .jp2)
+    going-on {lack} {n} {i} a m p q =
+        let z : n ≡ b .header .length = omega arith in
+        rw (rest-is c n, z, p) (h .on (answer-done k (readItem b at c k) d a) q)

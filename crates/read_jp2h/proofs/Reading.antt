@@ -4,17 +4,15 @@ use Prim.Native.Nat.{ℕ}
 use mathlib.Core.Path.{_≡_, refl}
 use mathlib.Core.Bool.{Bool, true, false, not, _&&_}
 use mathlib.Core.List.{List, [], _∷_}
-use lib.Dec.{eqb}
 use borrow.Author.Tests.{ne-eqb}
 use types.Run.{OneOf, miss}
 use denote.Enum.Declared.{tagOf}
-use Rattle.box_number.specs.Table.{table}
-use Rattle.box_number.proofs.Rows.{either}
-use Rattle.box_kind.specs.Kind.{kindOf, numberOf}
+use Rattle.box_number.specs.Table.{holds}
+use Rattle.box_kind.specs.Kind.{_is_}
 use Rattle.box_kind.specs.declared.Jp2BoxType.{Jp2BoxType}
 use Rattle.box_kind.specs.declared.Jp2BoxType.the-variants.{None, JPIP, JP, FTYP, JP2H, IHDR, COLR, JP2C, URL, PCLR, CMAP, CDEF, DTBL, BPCC, JP2, RES, JP2I, XML, UUID, UINF, Unknown}
 use Rattle.box_kind.proofs.Jp2BoxType.{the-type}
-use Rattle.box_kind.proofs.KindNumbers.{not-kind}
+use Rattle.box_kind.proofs.KindNumbers.{not-named}
 use Rattle.read_record.specs.declared.Jp2.{Jp2}
 use Rattle.read_record.specs.declared.Outcome.{Outcome}
 use Rattle.read_record.specs.Answer.{answer}
@@ -51,14 +49,16 @@ unread (Unknown n) h = refl
 abbrev pub not-ihdrs : List ℕ
 not-ihdrs = 0 ∷ 1 ∷ 2 ∷ 3 ∷ 4 ∷ 6 ∷ 7 ∷ 8 ∷ 9 ∷ 10 ∷ 11 ∷ 12 ∷ 13 ∷ 14 ∷ 15 ∷ 16 ∷ 17 ∷ 18 ∷ 19 ∷ 20 ∷ []
 
-not-ihdr : {k : Jp2BoxType} {n : ℕ} → k ≡ kindOf n → OneOf not-ihdrs (tagOf the-type k) → n ≡ 0x69686472 → ⊥
-unfolding kindOf table
-not-ihdr e h = not-kind not-ihdrs 0x69686472 tt e h
+-- after a box that is no ihdr, jp2h lacks an ihdr as before
+pub lacks-kept : (k : Jp2BoxType) (lacks : Bool) → OneOf not-ihdrs (tagOf the-type k) → lacks ≡ (not (holds (k is IHDR)) && lacks)
+lacks-kept k lacks h = rw (ne-eqb _ _ (not-named not-ihdrs k IHDR tt h))
 
--- a box that is no ihdr leaves it at what was lacking
-pub lacks-kept : (k : Jp2BoxType) (lacks : Bool) → (lacks ≡ true → k ≡ kindOf (numberOf k)) → OneOf not-ihdrs (tagOf the-type k) → lacks ≡ (not (eqb (numberOf k) 0x69686472) && lacks)
-lacks-kept k true p h = rw (ne-eqb _ _ (not-ihdr (p refl) h))
-lacks-kept k false p h = either (eqb (numberOf k) 0x69686472) (λ e. rw e) (λ e. rw e)
+-- the tags of the kinds other than jp2h
+abbrev pub not-jp2hs : List ℕ
+not-jp2hs = 0 ∷ 1 ∷ 2 ∷ 3 ∷ 5 ∷ 6 ∷ 7 ∷ 8 ∷ 9 ∷ 10 ∷ 11 ∷ 12 ∷ 13 ∷ 14 ∷ 15 ∷ 16 ∷ 17 ∷ 18 ∷ 19 ∷ 20 ∷ []
+
+pub is-alone : (k : Jp2BoxType) → OneOf not-jp2hs (tagOf the-type k) → true ≡ not (holds (k is JP2H))
+is-alone k h = rw (ne-eqb _ _ (not-named not-jp2hs k JP2H tt h))
 
 -- what the reader of a kind answered
 module _ (place start : ℕ) (c : List ℕ) (j : Jp2) {r : Outcome} where

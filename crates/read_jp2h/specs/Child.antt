@@ -1,7 +1,6 @@
 -- I.5.3: the boxes inside a JP2 Header box, each kind with its reader. A box of another kind is skipped.
 use Prim.Native.Nat.{ℕ}
 use mathlib.Core.List.{List}
-use Rattle.box_kind.specs.Kind.{kindOf}
 use Rattle.box_kind.specs.declared.Jp2BoxType.{Jp2BoxType}
 use Rattle.box_kind.specs.declared.Jp2BoxType.the-variants.{None, JPIP, JP, FTYP, JP2H, IHDR, COLR, JP2C, URL, PCLR, CMAP, CDEF, DTBL, BPCC, JP2, RES, JP2I, XML, UUID, UINF, Unknown}
 use Rattle.read_record.specs.declared.Jp2.{Jp2}
@@ -15,7 +14,7 @@ use Rattle.read_channels.specs.Cmap.{cmap}
 use Rattle.read_channels.specs.Cdef.{cdef}
 use Rattle.read_jp2h.specs.Split.{Box}
 
--- the image state's unknown bits tell of a box that was skipped
+-- a box that is skipped sets the unknown bits of the image state
 abbrev pub skipped : ℕ → ℕ → List ℕ → Jp2 → Result
 skipped place start c j = accepted (withImgUnknown j)
 
@@ -43,4 +42,4 @@ reader UINF = skipped
 reader (Unknown n) = skipped
 
 abbrev pub child : Box → Jp2 → Result
-child b j = reader (kindOf (b .type)) (b .place) (b .start) (b .content) j
+child b j = reader (b .kind) (b .place) (b .start) (b .content) j

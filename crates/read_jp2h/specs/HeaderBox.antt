@@ -1,10 +1,12 @@
--- A box that belongs to the header: a box of jp2h that stands outside it (difference 13) is read by its own reader, and any other as jp2h.
+-- A box of the file that belongs to the header: jp2h, or a box of another kind that stands outside it (difference 13), which its own reader reads.
 use Prim.Native.Nat.{ℕ, _+_}
 use mathlib.Core.List.{List}
 use lib.ListN.{length}
-use Rattle.box_number.specs.Table.{_<?_, flag, otherwise, _⇒_∣_, table}
-use Rattle.box_kind.specs.Kind.{isImageHeader}
+use Rattle.box_number.specs.Table.{_<?_, otherwise, _⇒_∣_, table}
+use Rattle.box_kind.specs.Kind.{_is_}
 use Rattle.box_kind.specs.declared.Jp2BoxType.{Jp2BoxType}
+use Rattle.box_kind.specs.declared.Jp2BoxType.the-variants.{JP2H}
+use Rattle.box_header.specs.Box.{largest}
 use Rattle.read_record.specs.declared.Jp2.{Jp2}
 use Rattle.read_record.specs.Answer.{Result, refused}
 use Rattle.read_jp2h.specs.Child.{reader}
@@ -14,6 +16,6 @@ use Rattle.read_jp2h.specs.Jp2h.{jp2h}
 unfoldable pub headerBox : Jp2BoxType → ℕ → ℕ → List ℕ → Jp2 → Result
 headerBox kind place start c j =
     table
-    (4294967295 <? start + length c ⇒ refused 4 place
-    ∣ flag (isImageHeader kind) ⇒ reader kind place start c j
-    ∣ otherwise (jp2h place start c j))
+    (largest <? start + length c ⇒ refused 4 place
+    ∣ kind is JP2H ⇒ jp2h place start c j
+    ∣ otherwise (reader kind place start c j))

@@ -2,9 +2,11 @@
 use Prim.Native.Nat.{ℕ, _+_}
 use mathlib.Core.Bool.{Bool, true, not, _&&_}
 use mathlib.Core.List.{List}
-use lib.Dec.{eqb}
 use lib.ListN.{length}
-use Rattle.box_number.specs.Table.{_=?_, _<?_, flag, otherwise, _⇒_∣_, table}
+use Rattle.box_number.specs.Table.{_=?_, _<?_, flag, otherwise, _⇒_∣_, holds, table}
+use Rattle.box_kind.specs.Kind.{_is_}
+use Rattle.box_kind.specs.declared.Jp2BoxType.the-variants.{IHDR}
+use Rattle.box_header.specs.Box.{largest}
 use Rattle.read_record.specs.declared.Jp2.{Jp2}
 use Rattle.read_record.specs.Record.{withState, withImgstate, withHasJp2h}
 use Rattle.read_record.specs.State.{fileTypeBit, withBit}
@@ -12,7 +14,7 @@ use Rattle.read_record.specs.Answer.{Result, accepted, refused, andThen}
 use Rattle.read_jp2h.specs.Split.{Boxes, noBytes, cut, highWord, toEnd, short, past, _▸_, boxes}
 use Rattle.read_jp2h.specs.Child.{child}
 
--- the boxes in order, up to the first that is turned down: a box whose header is no header of a child (10), or whose length is below its header's or past jp2h (11)
+-- the boxes in order, up to the first that is refused: a box whose header is no header of a child (10), or whose length is below its header's or past jp2h (11)
 unfoldable pub readAll : Boxes → Jp2 → Result
 readAll noBytes k = accepted k
 readAll (cut place) k = refused 10 place
@@ -22,7 +24,7 @@ readAll (short b) k = refused 11 (b .place)
 readAll (past b) k = refused 11 (b .place)
 readAll (b ▸ bs) k = andThen (child b k) (λ m. readAll bs m)
 
--- 'ihdr' is not among the boxes
+-- none of the boxes is an ihdr
 unfoldable pub lacksIhdr : Boxes → Bool
 lacksIhdr noBytes = true
 lacksIhdr (cut place) = true
@@ -30,7 +32,7 @@ lacksIhdr (highWord place) = true
 lacksIhdr (toEnd b) = true
 lacksIhdr (short b) = true
 lacksIhdr (past b) = true
-lacksIhdr (b ▸ bs) = not (eqb (b .type) 0x69686472) && lacksIhdr bs
+lacksIhdr (b ▸ bs) = not (holds (b .kind is IHDR)) && lacksIhdr bs
 
 -- the header bit, and has_jp2h
 abbrev pub withHeaderBit : Jp2 → Jp2
@@ -49,4 +51,4 @@ jp2h place start c j =
 
 -- as a reader of its own: a content that reaches past the last place that a file can have is past the file
 unfoldable pub jp2hAlone : ℕ → ℕ → List ℕ → Jp2 → Result
-jp2hAlone place start c j = table (4294967295 <? start + length c ⇒ refused 4 place ∣ otherwise (jp2h place start c j))
+jp2hAlone place start c j = table (largest <? start + length c ⇒ refused 4 place ∣ otherwise (jp2h place start c j))

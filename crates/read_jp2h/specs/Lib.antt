@@ -2,4 +2,4 @@ pub mod Split
 pub mod Child
 pub mod Jp2h
 pub mod HeaderBox
-pub mod Step
+pub mod Private

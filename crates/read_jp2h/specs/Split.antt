@@ -4,12 +4,14 @@ use mathlib.Core.List.{List}
 use lib.ListN.{length, drop}
 use Rattle.box_number.specs.Number.{part}
 use Rattle.box_number.specs.Table.{_=?_, _<?_, otherwise, _⇒_∣_, table}
-use Rattle.box_header.specs.Box.{LBox, TBox, headerLength, boxLength}
+use Rattle.box_kind.specs.Kind.{kindOf}
+use Rattle.box_kind.specs.declared.Jp2BoxType.{Jp2BoxType}
+use Rattle.box_header.specs.Box.{largest, LBox, TBox, headerLength, boxLength}
 
 infixr 60 _▸_
--- a box: its TBox, where it starts, where its content starts, and its content
+-- a box: its kind, where it starts, where its content starts, and its content
 pub record Box : Type 0 where
-  pub type : ℕ
+  pub kind : Jp2BoxType
   pub place : ℕ
   pub start : ℕ
   pub content : List ℕ
@@ -27,7 +29,7 @@ pub data Boxes : Type 0 where
 
 -- the box that c starts with, at a place of the file
 abbrev pub firstBox : ℕ → List ℕ → Box
-firstBox at c = record { type = TBox c; place = at; start = at + headerLength c; content = part c (headerLength c) (boxLength c) }
+firstBox at c = record { kind = kindOf (TBox c); place = at; start = at + headerLength c; content = part c (headerLength c) (boxLength c) }
 
 -- the boxes of c, which starts at a place of the file; there are no more than the first number
 unfoldable pub split : ℕ → ℕ → List ℕ → Boxes
@@ -36,7 +38,7 @@ split (suc n) at c =
     table
     (length c =? 0 ⇒ noBytes
     ∣ length c <? headerLength c ⇒ cut at
-    ∣ 4294967295 <? boxLength c ⇒ highWord at
+    ∣ largest <? boxLength c ⇒ highWord at
     ∣ LBox c =? 0 ⇒ toEnd (firstBox at c)
     ∣ boxLength c <? headerLength c ⇒ short (firstBox at c)
     ∣ length c <? boxLength c ⇒ past (firstBox at c)

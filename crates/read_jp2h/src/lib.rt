@@ -1,17 +1,20 @@
 // The JP2 Header box (I.5.3): its boxes, one after the other.
 ghost use Prim.Native.Nat.{_+_, _≤_};
 ghost use mathlib.Core.Path.{_≡_};
-ghost use mathlib.Core.Bool.{true, not, _&&_};
-ghost use lib.Dec.{eqb};
+ghost use mathlib.Core.Bool.{not, _&&_};
 ghost use lib.ListN.{length};
-ghost use Rattle.box_kind.specs.Kind.{kindOf, numberOf};
+ghost use Rattle.box_number.specs.Table.{holds};
+ghost use Rattle.box_kind.specs.Kind.{_is_};
+ghost use Rattle.box_kind.specs.declared.Jp2BoxType.the-variants.{IHDR, JP2H};
+ghost use Rattle.box_header.specs.Box.{largest};
 ghost use Rattle.read_record.specs.Answer.{answer};
 ghost use Rattle.read_record.specs.State.{withBit};
 ghost use Rattle.read_jp2h.specs.Child.{reader};
 ghost use Rattle.read_jp2h.specs.Jp2h.{jp2hAlone};
 ghost use Rattle.read_jp2h.specs.HeaderBox.{headerBox};
-ghost use Rattle.read_jp2h.specs.Step.{nextChild, next, readItem, refusal, opened, closed};
+ghost use Rattle.read_jp2h.specs.Private.Step.{nextChild, next, readItem, refusal, opened, closed};
 use box_header::Jp2BoxHeader;
+use box_header::LARGEST;
 use box_header::ReadHeader;
 use box_kind::Jp2BoxType;
 use read_record::Answer;
@@ -19,8 +22,18 @@ use read_record::Jp2;
 use read_record::Outcome;
 use read_record::Status;
 
-// The content of a box inside jp2h, by the reader of its kind; one of another kind is skipped.
-pub fn read_content(ty: Jp2BoxType, c: &[u8], place: u32, start: u32, j: Jp2) -> Outcome
+// The bits of a state: file type, header, and all 31 low bits, which tell of a box that was skipped.
+const FILE_TYPE: u32 = 2;
+
+const HEADER: u32 = 4;
+
+const UNKNOWN: u32 = 2147483647;
+
+// The bit of a state above the 31 low ones.
+const HIGH: u32 = 2147483648;
+
+// The content of a box inside jp2h, by the reader of its kind. A box of another kind is skipped.
+fn read_content(ty: Jp2BoxType, c: &[u8], place: u32, start: u32, j: Jp2) -> Outcome
     ensures { λ r. ⌜ r ≡ answer j (reader ty place start (now (c .entry)) j) ⌝ }
 {
     match ty {
@@ -32,7 +45,7 @@ pub fn read_content(ty: Jp2BoxType, c: &[u8], place: u32, start: u32, j: Jp2) ->
         Jp2BoxType::CDEF => read_channels::opj_jp2_read_cdef(c, place, start, j),
         _ => {
             let mut status = j.status;
-            status.imgstate = status.imgstate / 2147483648 * 2147483648 + 2147483647;
+            status.imgstate = status.imgstate / HIGH * HIGH + UNKNOWN;
             let mut k = j;
             k.status = status;
             Outcome::done(k)
@@ -40,22 +53,20 @@ pub fn read_content(ty: Jp2BoxType, c: &[u8], place: u32, start: u32, j: Jp2) ->
     }
 }
 
-// A box to read: its kind, its place, and where its content starts and ends in the bytes that are left.
+// A box to read: its place in the file, and its header. A box outside jp2h is read from its content alone, and has a header of no bytes here.
 pub struct Item {
-    pub ty: Jp2BoxType,
     pub place: u32,
-    pub head: u32,
-    pub size: u32,
+    pub header: Jp2BoxHeader,
 }
 
-// What is read next: nothing where no bytes are left, a box, or the number for which it is turned down.
+// What is read next: nothing where no bytes are left, a box, or the number of a refusal.
 pub enum Next {
     Nothing,
     Fault(u32),
     Found(Item),
 }
 
-// The child that starts at c's first byte, which is at a place of the file.
+// The child that starts at the first byte of c, which is at a place of the file.
 fn find_child(c: &[u8], at: u32) -> Next
     ensures { λ r. ⌜ r ≡ nextChild at (now (c .entry)) ⌝ }
 {
@@ -68,51 +79,52 @@ fn find_child(c: &[u8], at: u32) -> Next
     if h.length < h.header_length {
         return Next::Fault(11);
     }
-    if c.len() < h.length as usize {
+    if c.len() < h.next(0) {
         return Next::Fault(11);
     }
-    let ty = h.ty;
     Next::Found(Item {
-        ty,
         place: at,
-        head: h.header_length,
-        size: h.length,
+        header: h,
     })
 }
 
-// Where a lone box is still to be read it comes next, and all of c is its content.
+// Where a box outside jp2h is still to be read, it comes next, and all of c is its content.
 fn find_next(lone: bool, ty: Jp2BoxType, place: u32, c: &[u8], at: u32) -> Next
-    requires { ⌜ at + length (now c) ≤ 4294967295 ⌝ }
+    requires { ⌜ at + length (now c) ≤ largest ⌝ }
     ensures { λ r. ⌜ r ≡ next lone ty place at (now (c .entry)) ⌝ }
 {
     if lone {
         return Next::Found(Item {
-            ty,
             place,
-            head: 0,
-            size: c.len() as u32,
+            header: Jp2BoxHeader {
+                length: c.len() as u32,
+                ty,
+                header_length: 0,
+            },
         });
     }
     find_child(c, at)
 }
 
-// The box, which lies in the bytes c that are left.
+// Reads the box, which lies in the bytes c that are left.
 fn read_item(b: Item, c: &[u8], at: u32, k: Jp2) -> Outcome
-    requires { ⌜ at + b .head ≤ 4294967295 ⌝ }
+    requires { ⌜ at + b .header .«header_length» ≤ largest ⌝ }
     ensures { λ r. ⌜ r ≡ answer k (readItem b at (now (c .entry)) k) ⌝ }
 {
-    let content = box_number::part(c, b.head as usize, b.size as usize);
-    let start = at + b.head;
-    let ty = b.ty;
+    let h = b.header;
+    let head = h.header_length as usize;
+    let content = box_number::part(c, head, head + h.content_length() as usize);
+    let start = at + h.header_length;
+    let ty = h.ty;
     read_content(ty, content, b.place, start, k)
 }
 
 // Whether jp2h still lacks an ihdr after a box.
 fn still_lacks(b: Item, lacks: bool) -> bool
-    requires { ⌜ (lacks ≡ true → b .ty ≡ kindOf (numberOf (b .ty))) ⌝ }
-    ensures { λ r. ⌜ r ≡ (not (eqb (numberOf (b .ty)) 0x69686472) && lacks) ⌝ }
+    ensures { λ r. ⌜ r ≡ (not (holds (b .header .ty is IHDR)) && lacks) ⌝ }
 {
-    let ty = b.ty;
+    let h = b.header;
+    let ty = h.ty;
     if let Jp2BoxType::IHDR = ty {
         return false;
     }
@@ -123,24 +135,24 @@ fn still_lacks(b: Item, lacks: bool) -> bool
 fn with_header(state: u32) -> u32
     ensures { λ r. ⌜ r ≡ withBit 4 state ⌝ }
 {
-    if state / 4 % 2 == 0 {
-        return state + 4;
+    if state / HEADER % 2 == 0 {
+        return state + HEADER;
     }
     state
 }
 
-// The number for which a box is turned down before its content is looked at, 0 for none.
+// The number for which a box is refused before its content is read, 0 for none.
 fn refusal(alone: bool, c: &[u8], start: u32, state: u32) -> u32
     ensures { λ r. ⌜ r ≡ refusal alone start (now (c .entry)) state ⌝ }
 {
-    let room = 4294967295 - start as usize;
+    let room = LARGEST - start as usize;
     if room < c.len() {
         return 4;
     }
     if alone {
         return 0;
     }
-    if state / 2 % 2 == 0 {
+    if state / FILE_TYPE % 2 == 0 {
         return 9;
     }
     0
@@ -171,12 +183,22 @@ fn closed(alone: bool, status: Status) -> Status
     s
 }
 
-// jp2h, or a box of it that stands outside: a list of one. Both go through one loop, so that readers are chosen and called at one place. There the record is changed where it
-// lies; beside a second such call it would be copied at each box, which costs more than reading a small box does.
+// Whether a box is read alone: one of any kind but jp2h.
+fn is_alone(ty: Jp2BoxType) -> bool
+    ensures { λ r. ⌜ r ≡ not (holds (ty is JP2H)) ⌝ }
+{
+    if let Jp2BoxType::JP2H = ty {
+        return false;
+    }
+    true
+}
+
+// jp2h, or a box of another kind that stands outside it, which is read as a list of one. Both go through one loop, so that readers are chosen and called at one place.
+// There the record is changed where it lies. Beside a second such call it would be copied at each box, which costs more than reading a small box does.
 pub fn read_header_box(ty: Jp2BoxType, c: &[u8], place: u32, start: u32, j: Jp2) -> Outcome
     ensures { λ r. ⌜ r ≡ answer j (headerBox ty place start (now (c .entry)) j) ⌝ }
 {
-    let alone = ty.is_image_header();
+    let alone = is_alone(ty);
     let status = j.status;
     let number = refusal(alone, c, start, status.state);
     if 0 < number {
@@ -185,7 +207,7 @@ pub fn read_header_box(ty: Jp2BoxType, c: &[u8], place: u32, start: u32, j: Jp2)
     let first = opened(alone, status);
     let mut k = j;
     k.status = first;
-    // whether the box that is alone is still to be read
+    // whether a box that is read alone is still to be read
     let mut lone = alone;
     let mut rest = c;
     let mut at = start;
@@ -210,9 +232,10 @@ pub fn read_header_box(ty: Jp2BoxType, c: &[u8], place: u32, start: u32, j: Jp2)
                 if let Answer::Refused(n, p) = answer {
                     return Outcome::refused(n, p, j);
                 }
-                let size = b.size as usize;
+                let h = b.header;
+                let size = h.next(0);
                 rest = &rest[size..];
-                at = at + b.size;
+                at = h.next(at) as u32;
                 lacks = still_lacks(b, lacks);
                 k = outcome.jp2;
                 lone = false;

@@ -5,6 +5,7 @@ use mathlib.Core.Path.{_≡_, refl, sym}
 use mathlib.Core.List.{List}
 use lib.ListN.{length}
 use Rattle.box_number.proofs.Rows.{row}
+use Rattle.box_kind.specs.Kind.{kindOf}
 use Rattle.box_header.specs.Box.{LBox, TBox, headerLength, boxLength}
 use Rattle.read_jp2h.specs.Split.{Box, toEnd, _▸_, split}
 use Rattle.read_rules.proofs.Sames.{Headed}
@@ -12,7 +13,7 @@ use Rattle.read_rules.proofs.Parts.{Whole, content, rest}
 
 -- the first box of c, with another content
 abbrev pub boxOf : ℕ → List ℕ → List ℕ → Box
-boxOf at c x = record { type = TBox c; place = at; start = at + headerLength c; content = x }
+boxOf at c x = record { kind = kindOf (TBox c); place = at; start = at + headerLength c; content = x }
 
 -- the first box of c is there
 pub record Found (c : List ℕ) : Type 0 where

@@ -5,11 +5,11 @@ use mathlib.Core.Path.{_≡_, refl, ap, subst}
 use mathlib.Core.Bool.{Bool, not, _&&_}
 use mathlib.Core.List.{List}
 use native.Mathlib.Omega.{arith}
-use lib.Dec.{eqb}
 use lib.ListN.{length}
-use Rattle.box_number.specs.Table.{_=?_, flag, otherwise, _⇒_∣_, table}
+use Rattle.box_number.specs.Table.{_=?_, flag, otherwise, _⇒_∣_, holds, table}
 use Rattle.box_number.proofs.Rows.{each}
-use Rattle.box_kind.specs.Kind.{kindOf}
+use Rattle.box_kind.specs.Kind.{kindOf, _is_}
+use Rattle.box_kind.specs.declared.Jp2BoxType.the-variants.{IHDR}
 use Rattle.box_header.specs.Box.{LBox, TBox, headerLength, boxLength}
 use Rattle.box_header.proofs.Headers.{header-least}
 use Rattle.read_record.specs.declared.Jp2.{Jp2}
@@ -38,7 +38,7 @@ told n at k c = (readAll (split n at c) k, lacksIhdr (split n at c))
 told-same : (n at : ℕ) (c : List ℕ) (k m : Jp2) → Found c → (LBox c ≡ 0 → ⊥) → child (firstBox at c) k ≡ accepted m → Follows (told (suc n) at k) (λ x. child (boxOf at c x) k) (told n (at + boxLength c) m) c
 unfolding readAll lacksIhdr
 told-same n at c k m f z r e h p q =
-    rw (split-next n at c e h f z, split-next n at c c (headed-self c) f z, p, r) (ap (λ (t : Result × Bool). (t .0, not (eqb (TBox c) 0x69686472) && t .1)) q)
+    rw (split-next n at c e h f z, split-next n at c c (headed-self c) f z, p, r) (ap (λ (t : Result × Bool). (t .0, not (holds (kindOf (TBox c) is IHDR)) && t .1)) q)
 
 -- jp2h's answer, from what the walk tells
 abbrev finish : ℕ → Jp2 → Result × Bool → Result

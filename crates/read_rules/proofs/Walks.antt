@@ -1,13 +1,13 @@
 -- The walk through a file, and what it does to the record.
 -- Assumes nothing.
 use Prim.Native.Nat.{ℕ, zero, suc, _+_, _≤_, _<_}
-use mathlib.Core.Path.{_≡_, refl, sym, _∙_}
+use mathlib.Core.Path.{_≡_, refl, sym, ap, _∙_}
 use mathlib.Core.Bool.{false}
 use mathlib.Core.List.{List}
 use native.Mathlib.Omega.{arith}
 use lib.ListN.{length}
 use Rattle.box_number.proofs.Rows.{Says, row, each}
-use Rattle.box_kind.specs.Kind.{kindOf}
+use Rattle.box_kind.specs.Kind.{kindOf, tag}
 use Rattle.box_header.specs.Box.{LBox, TBox, headerLength, boxLength}
 use Rattle.box_header.proofs.Headers.{header-least, box-all}
 use Rattle.read_record.specs.declared.Jp2.{Jp2}
@@ -26,11 +26,11 @@ use Rattle.read_rules.proofs.Superbox.{jp2h-reads}
 abbrev pub heard : ℕ → ℕ → Jp2 → List ℕ → Walked
 heard n at k c = run (split n at c) k
 
--- two boxes of one type that are read the same, and the same after them
-whole-same : (b d : Box) (k m : Jp2) (next then : Jp2 → Walked) → Says false (isStream b) → d .type ≡ b .type → outer b k ≡ accepted m → outer d k ≡ outer b k → then m ≡ next m → whole d k then ≡ whole b k next
+-- two boxes of one kind that are read the same, and the same after them
+whole-same : (b d : Box) (k m : Jp2) (next then : Jp2 → Walked) → Says false (isStream b) → d .kind ≡ b .kind → outer b k ≡ accepted m → outer d k ≡ outer b k → then m ≡ next m → whole d k then ≡ whole b k next
 whole-same b d k m next then n t r p q =
     let same : thenWalk (outer d k) then ≡ thenWalk (outer b k) next = rw (p, r) q in
-    sym (row 1 _ ((λ y. n (sym t ∙ y)), tt) refl) ∙ same ∙ row 1 _ (n, tt) refl
+    sym (row 1 _ ((λ y. n (ap tag (sym t) ∙ y)), tt) refl) ∙ same ∙ row 1 _ (n, tt) refl
 
 -- a file whose first box is read follows from that box and the rest
 module _ (n at : ℕ) (c : List ℕ) (k m : Jp2) (found : Found c) (other : Says false (isStream (firstBox at c))) (r : outer (firstBox at c) k ≡ accepted m) where

@@ -33,7 +33,7 @@ use Rattle.write_rules.proofs.Splitting.{boxAt}
 use Rattle.write_rules.proofs.Bounds.{Fit, wrapping-most, bpc-most, n-most, space-most}
 use Rattle.write_rules.proofs.Lengths.{length-ihdrContent, length-bpccContent, length-colrContent, length-cdefContent}
 
-kind-ihdr : kindOf (numberOf IHDR) ≡ IHDR
+pub kind-ihdr : kindOf (numberOf IHDR) ≡ IHDR
 unfolding kindOf table
 kind-ihdr = refl
 

@@ -31,7 +31,7 @@ use Rattle.write_rules.proofs.Splitting.{split-box}
 use Rattle.write_rules.proofs.Lengths.{length-box, length-ihdrContent, length-ihdr, length-bpccContent, length-colrContent, length-cdefContent}
 use Rattle.write_rules.proofs.Steps.{Reads, no-child, no-more, child-box}
 use Rattle.write_rules.proofs.Bounds.{Fit, n-most, meth-cases}
-use Rattle.write_rules.proofs.Children.{sized, painted, spec-one, spec-two, ihdr-read, bpcc-read, colr-one, colr-two, cdef-read}
+use Rattle.write_rules.proofs.Children.{kind-ihdr, sized, painted, spec-one, spec-two, ihdr-read, bpcc-read, colr-one, colr-two, cdef-read}
 
 -- where bpcc, colr and cdef stand
 abbrev pub colrAt : Request → ℕ
@@ -167,7 +167,7 @@ module _ (r : Request) (fit : Fit r) where
   has-ihdr : (n : ℕ) (rest : List ℕ) → length (ihdr (fieldsOf r) ++ rest) ≤ n → lacksIhdr (split n 40 (ihdr (fieldsOf r) ++ rest)) ≡ false
   unfolding lacksIhdr
   has-ihdr zero rest h = absurd (omega (arith, length-append (ihdr (fieldsOf r)) rest, length-ihdr (fieldsOf r)))
-  has-ihdr (suc n) rest h = rw (split-box IHDR (ihdrContent (fieldsOf r)) rest (rw (length-ihdrContent (fieldsOf r)) (omega arith)) (omega arith) n 40) refl
+  has-ihdr (suc n) rest h = rw (split-box IHDR (ihdrContent (fieldsOf r)) rest (rw (length-ihdrContent (fieldsOf r)) (omega arith)) (omega arith) n 40, kind-ihdr) refl
 
   grouped : jp2hContent (r .components) (fieldsOf r) (r .profile) ≡ ihdr (fieldsOf r) ++ tail
   grouped = simp (append-assoc, append-nil)

@@ -8,7 +8,7 @@ use lib.ListN.{length, drop, length-append}
 use lib.Seq.{drop-at, take-append-seam}
 use Rattle.box_number.specs.Number.{part, bytes}
 use Rattle.box_number.proofs.Rows.{row}
-use Rattle.box_kind.specs.Kind.{numberOf}
+use Rattle.box_kind.specs.Kind.{kindOf, numberOf}
 use Rattle.box_kind.specs.declared.Jp2BoxType.{Jp2BoxType}
 use Rattle.box_header.specs.Box.{LBox, TBox, headerLength, boxLength}
 use Rattle.box_header.proofs.Headers.{header-8, box-plain}
@@ -19,7 +19,7 @@ use Rattle.write_rules.proofs.Numbers.{number-here, number-next}
 
 -- a box by its kind, its place and its content
 abbrev pub boxAt : Jp2BoxType → ℕ → List ℕ → Box
-boxAt type at content = record { type = numberOf type; place = at; start = at + 8; content = content }
+boxAt type at content = record { kind = kindOf (numberOf type); place = at; start = at + 8; content = content }
 
 -- what a written header says
 module _ (type : Jp2BoxType) (n : ℕ) (rest : List ℕ) (small : 8 + n ≤ 4294967295) (known : numberOf type < 4294967296) where

@@ -6,9 +6,9 @@ use mathlib.Core.List.{List, [], _++_}
 use native.Mathlib.Nat.{add-zero}
 use native.Mathlib.Omega.{arith}
 use lib.ListN.{length, length-append}
-use Rattle.box_number.specs.Table.{_<?_}
+use Rattle.box_number.specs.Table.{_<?_, table}
 use Rattle.box_number.proofs.Rows.{row}
-use Rattle.box_kind.specs.Kind.{numberOf}
+use Rattle.box_kind.specs.Kind.{kindOf, numberOf, tag}
 use Rattle.box_kind.specs.declared.Jp2BoxType.{Jp2BoxType}
 use Rattle.box_kind.specs.declared.Jp2BoxType.the-variants.{JP2C}
 use Rattle.box_header.specs.Box.{headerLength, boxLength}
@@ -56,7 +56,7 @@ module _ (type : Jp2BoxType) (content rest : List ℕ) (small : 8 + length conte
   child-box zero at k m h e = absurd (omega (arith, both))
   child-box (suc n) at k m h e = record { fuel = n; enough = omega (arith, both); same = rw (split-box type content rest small known n at, e, length-box) refl }
 
-  pub file-box : (n at : ℕ) (k m : Jp2) → (numberOf type ≡ numberOf JP2C → ⊥) → length (box type content ++ rest) ≤ n → outer (boxAt type at content) k ≡ accepted m → Walks n at (box type content) rest k m
+  pub file-box : (n at : ℕ) (k m : Jp2) → (tag (kindOf (numberOf type)) ≡ tag JP2C → ⊥) → length (box type content ++ rest) ≤ n → outer (boxAt type at content) k ≡ accepted m → Walks n at (box type content) rest k m
   unfolding run
   file-box zero at k m t h e = absurd (omega (arith, both))
   file-box (suc n) at k m t h e =
@@ -70,6 +70,10 @@ module _ (type : Jp2BoxType) (content rest : List ℕ) (small : 8 + length conte
 pub onward : {n at : ℕ} {c rest : List ℕ} {k m : Jp2} {w : Walked} → Walks n at c rest k m → (to : ℕ) → at + length c ≡ to → ((fuel : ℕ) → length rest ≤ fuel → run (split fuel to rest) m ≡ w) → run (split n at (c ++ rest)) k ≡ w
 onward a to e next = a .same ∙ rw e (next (a .fuel) (a .enough))
 
+kind-stream : kindOf (numberOf JP2C) ≡ JP2C
+unfolding kindOf table
+kind-stream = refl
+
 -- the codestream is reached, whatever its length
 module _ (k : Jp2) (head : headerBit k ≡ 0 → ⊥) where
   abbrev reached : ℕ → Walked
@@ -78,11 +82,11 @@ module _ (k : Jp2) (head : headerBit k ≡ 0 → ⊥) where
   stream-is : (b : Box) → stream b k ≡ reached (b .start)
   stream-is b = sym (row 1 _ (head, tt) refl)
 
-  past-is : (b : Box) → b .type ≡ numberOf JP2C → run (past b) k ≡ reached (b .start)
+  past-is : (b : Box) → tag (b .kind) ≡ tag JP2C → run (past b) k ≡ reached (b .start)
   unfolding run
   past-is b t = sym (row 0 _ t refl) ∙ stream-is b
 
-  whole-is : (b : Box) → b .type ≡ numberOf JP2C → (n at : ℕ) (c : List ℕ) → run (b ▸ split n at c) k ≡ reached (b .start)
+  whole-is : (b : Box) → tag (b .kind) ≡ tag JP2C → (n at : ℕ) (c : List ℕ) → run (b ▸ split n at c) k ≡ reached (b .start)
   unfolding run
   whole-is b t n at c = sym (row 0 _ t refl) ∙ stream-is b
 
@@ -93,7 +97,7 @@ module _ (k : Jp2) (head : headerBit k ≡ 0 → ⊥) where
       let c = boxHeader JP2C size ++ rest in
       let known : numberOf JP2C < 4294967296 = omega arith in
       let l = lbox JP2C size rest small known in
-      let t = tbox JP2C size rest small known in
+      let t = ap (λ (m : ℕ). tag (kindOf m)) (tbox JP2C size rest small known) ∙ ap tag kind-stream in
       let h = header-is JP2C size rest small known in
       let b = long JP2C size rest small known in
       let s : length c ≡ 8 + length rest = simp (length-append, length-header) in

@@ -1,7 +1,7 @@
 -- The file as it was written, read box by box up to the codestream.
 -- Assumes nothing.
 use Prim.Native.Nat.{ℕ, _+_, _≤_}
-use mathlib.Core.Path.{_≡_, refl, sym, _∙_}
+use mathlib.Core.Path.{_≡_, refl, sym, ap, _∙_}
 use mathlib.Core.List.{List, _++_, append-assoc}
 use native.Mathlib.Omega.{arith}
 use lib.ListN.{length, length-append}
@@ -9,6 +9,7 @@ use Rattle.box_number.specs.Number.{number, bytes}
 use Rattle.box_number.specs.Table.{table}
 use Rattle.box_number.proofs.Rows.{row}
 use Rattle.box_number.proofs.Bytes.{length-bytes}
+use Rattle.box_kind.specs.Kind.{kindOf, numberOf, tag}
 use Rattle.box_kind.specs.declared.Jp2BoxType.the-variants.{JP, FTYP, JP2H, JP2C}
 use Rattle.read_record.specs.declared.Jp2.{Jp2}
 use Rattle.read_record.specs.Record.{blank, withState}
@@ -32,13 +33,25 @@ use Rattle.write_rules.proofs.Steps.{onward, file-box, stream-box}
 use Rattle.write_rules.proofs.Bounds.{Fit}
 use Rattle.write_rules.proofs.Header.{afterType, afterCdef, jp2h-read, children-most}
 
+kind-jp : kindOf (numberOf JP) ≡ JP
+unfolding kindOf table
+kind-jp = refl
+
+kind-ftyp : kindOf (numberOf FTYP) ≡ FTYP
+unfolding kindOf table
+kind-ftyp = refl
+
+kind-jp2h : kindOf (numberOf JP2H) ≡ JP2H
+unfolding kindOf table
+kind-jp2h = refl
+
 -- the two boxes that are the same in every file
 signature-read : outer (boxAt JP 0 (bytes 4 magic)) blank ≡ accepted (withState 1 blank)
-unfolding outer reading.signature table number bytes
+unfolding kindOf outer reading.signature table number bytes
 signature-read = refl
 
 type-read : outer (boxAt FTYP 12 fileTypeContent) (withState 1 blank) ≡ accepted afterType
-unfolding outer typing.fileType table number bytes
+unfolding kindOf outer typing.fileType table number bytes
 type-read = refl
 
 -- the file, box by box
@@ -60,7 +73,7 @@ module _ (r : Request) (fit : Fit r) where
 
   header-read : outer (boxAt JP2H 32 (jp2hContent (r .components) (fieldsOf r) (r .profile))) afterType ≡ accepted (withHeaderBit (afterCdef r))
   unfolding outer
-  header-read = sym (row 2 _ (omega arith) (sym (jp2h-read r fit)))
+  header-read = rw kind-jp2h (sym (row 2 _ (omega arith) (sym (jp2h-read r fit))))
 
   headed : headerBit (withHeaderBit (afterCdef r)) ≡ 0 → ⊥
   unfolding withBit table
@@ -77,11 +90,11 @@ module _ (r : Request) (fit : Fit r) where
   run-whole stream n h =
       let s = streamHeader (r .codestream) ++ stream in
       let most = children-most r fit in
-      onward (file-box JP (bytes 4 magic) (fileType ++ (jp2h (r .components) (fieldsOf r) (r .profile) ++ s)) (rw length-bytes (omega arith)) (omega arith) n 0 blank (withState 1 blank) (λ e. omega arith) h signature-read) 12 (omega (arith, length-signature))
+      onward (file-box JP (bytes 4 magic) (fileType ++ (jp2h (r .components) (fieldsOf r) (r .profile) ++ s)) (rw length-bytes (omega arith)) (omega arith) n 0 blank (withState 1 blank) (λ e. omega (arith, ap tag kind-jp)) h signature-read) 12 (omega (arith, length-signature))
       λ n h.
-      onward (file-box FTYP fileTypeContent (jp2h (r .components) (fieldsOf r) (r .profile) ++ s) (simp (length-append, length-bytes) (omega arith)) (omega arith) n 12 (withState 1 blank) afterType (λ e. omega arith) h type-read) 32 (omega (arith, length-type))
+      onward (file-box FTYP fileTypeContent (jp2h (r .components) (fieldsOf r) (r .profile) ++ s) (simp (length-append, length-bytes) (omega arith)) (omega arith) n 12 (withState 1 blank) afterType (λ e. omega (arith, ap tag kind-ftyp)) h type-read) 32 (omega (arith, length-type))
       λ n h.
-      onward (file-box JP2H (jp2hContent (r .components) (fieldsOf r) (r .profile)) s (omega arith) (omega arith) n 32 afterType (withHeaderBit (afterCdef r)) (λ e. omega arith) h header-read) (40 + length (jp2hContent (r .components) (fieldsOf r) (r .profile))) (omega (arith, length-box JP2H (jp2hContent (r .components) (fieldsOf r) (r .profile))))
+      onward (file-box JP2H (jp2hContent (r .components) (fieldsOf r) (r .profile)) s (omega arith) (omega arith) n 32 afterType (withHeaderBit (afterCdef r)) (λ e. omega (arith, ap tag kind-jp2h)) h header-read) (40 + length (jp2hContent (r .components) (fieldsOf r) (r .profile))) (omega (arith, length-box JP2H (jp2hContent (r .components) (fieldsOf r) (r .profile))))
       λ n h. run-stream stream n (40 + length (jp2hContent (r .components) (fieldsOf r) (r .profile))) h
 
   pub reads : (stream : List ℕ) → length (front (r .components) (fieldsOf r) (r .profile) (r .codestream)) + length stream ≤ 4294967295 → read (front (r .components) (fieldsOf r) (r .profile) (r .codestream) ++ stream) ≡ codestream (length (front (r .components) (fieldsOf r) (r .profile) (r .codestream))) (found r)

@@ -1,7 +1,6 @@
 -- `read_file::opj_jp2_read_header_procedure` meets its contract.
 -- Assumes nothing.
 use native.Mathlib.Omega.{arith}
-use borrow.Author.Needs.{needs}
 use mathlib.Core.Path.{refl}
 use lib.ListN.{length}
 use Rattle.box_number.proofs.Rows.{row}
@@ -9,6 +8,7 @@ use Rattle.read_jp2h.specs.Split.{boxes}
 use Rattle.read_file.specs.File.{run, walk}
 use Rattle.read_file.proofs.Turns.{gives, gives-end}
 use Rattle.read_file.proofs.Walking.{Going, going-start, going-end, going-none, going-header, going-stream, going-short, going-past, going-heads, going-fits, going-less, going-down, going-on, walked}
+use borrow.Author.Needs.{needs}
 use Rattle.read_file.proofs.opj_jp2_read_header_procedure.Statement.{statement}
 use Rattle.read_file.proofs.opj_jp2_read_header_procedure.Tie as tie
 
@@ -88,26 +88,29 @@ returns-6 c = let a = c .before .before .before .before .before .before .before 
 enum-told-3 : tie.Need-enum-told-3 Inv-loop μ-loop
 enum-told-3 c = search needs
 
-cast-size : tie.Need-cast-size Inv-loop μ-loop
-cast-size c = search needs
+next-requires : tie.Need-next-requires Inv-loop μ-loop
+next-requires c κs = tt
 
 sub-rest : tie.Need-sub-rest Inv-loop μ-loop
-sub-rest c = omega (arith, going-fits (c .before .before .before .before .before .before .before .before .before .loop .inv) (omega arith) (c .before .before .before .before .before .before .before .find-box .ensures) (c .before .before .before .before .before .found3 .given .1))
+sub-rest c = omega (arith, going-fits (c .before .before .before .before .before .before .before .before .before .loop .inv) (omega arith) (c .before .before .before .before .before .before .before .find-box .ensures) (c .before .before .before .before .before .found3 .given .1), c .next .ensures)
 
 part-rest-start : tie.Need-part-rest-start Inv-loop μ-loop
-part-rest-start c = omega (arith, going-fits (c .before .before .before .before .before .before .before .before .before .loop .inv) (omega arith) (c .before .before .before .before .before .before .before .find-box .ensures) (c .before .before .before .before .before .found3 .given .1))
+part-rest-start c = omega (arith, going-fits (c .before .before .before .before .before .before .before .before .before .loop .inv) (omega arith) (c .before .before .before .before .before .before .before .find-box .ensures) (c .before .before .before .before .before .found3 .given .1), c .next .ensures)
 
 part-rest-end : tie.Need-part-rest-end Inv-loop μ-loop
-part-rest-end c = omega (arith, going-fits (c .before .before .before .before .before .before .before .before .before .loop .inv) (omega arith) (c .before .before .before .before .before .before .before .find-box .ensures) (c .before .before .before .before .before .found3 .given .1))
+part-rest-end c = omega (arith, going-fits (c .before .before .before .before .before .before .before .before .before .loop .inv) (omega arith) (c .before .before .before .before .before .before .before .find-box .ensures) (c .before .before .before .before .before .found3 .given .1), c .next .ensures)
 
-add-at : tie.Need-add-at Inv-loop μ-loop
-add-at c = omega (arith, going-fits (c .before .before .before .before .before .before .before .before .before .before .before .loop .inv) (omega arith) (c .before .before .before .before .before .before .before .before .before .find-box .ensures) (c .before .before .before .before .before .before .before .found3 .given .1), c .before .before .before .before .before .before .before .before .before .before .before .loop .inv .room)
+next-requires-2 : tie.Need-next-requires-2 Inv-loop μ-loop
+next-requires-2 c κs = tt
+
+cast-at : tie.Need-cast-at Inv-loop μ-loop
+cast-at c = omega (arith, going-fits (c .before .before .before .before .before .before .before .before .before .before .before .loop .inv) (omega arith) (c .before .before .before .before .before .before .before .before .before .find-box .ensures) (c .before .before .before .before .before .before .before .found3 .given .1), c .next2 .ensures, c .before .before .before .before .before .before .before .before .before .before .before .loop .inv .room)
 
 loop-less : tie.Need-loop-less Inv-loop μ-loop
-loop-less c = going-less (c .before .before .before .before .before .before .before .before .before .before .before .before .loop .inv) (omega arith) (c .before .before .before .before .before .before .before .before .before .before .find-box .ensures) (c .before .before .before .before .before .before .before .before .found3 .given .1)
+loop-less c = going-less (c .before .before .before .before .before .before .before .before .before .before .before .before .loop .inv) (omega arith) (c .before .before .before .before .before .before .before .before .before .before .find-box .ensures) (c .before .before .before .before .before .before .before .before .found3 .given .1) (c .before .before .before .next .ensures)
 
 loop-again : tie.Need-loop-again Inv-loop μ-loop
-loop-again c = going-on (c .before .before .before .before .before .before .before .before .before .before .before .before .loop .inv) (omega arith) (c .before .before .before .before .before .before .before .before .before .before .find-box .ensures) (c .before .before .before .before .before .before .before .before .found3 .given .1) (c .before .before .before .before .before .before .read-whole .ensures) (c .before .before .before .before .enum-told3 .given .1)
+loop-again c = going-on (c .before .before .before .before .before .before .before .before .before .before .before .before .loop .inv) (omega arith) (c .before .before .before .before .before .before .before .before .before .before .find-box .ensures) (c .before .before .before .before .before .before .before .before .found3 .given .1) (c .before .before .before .before .before .before .read-whole .ensures) (c .before .before .before .before .enum-told3 .given .1) (c .before .before .before .next .ensures) (c .before .next2 .ensures)
 
 over-requires-2 : tie.Need-over-requires-2 Inv-loop μ-loop
 over-requires-2 c κs = tt
@@ -144,11 +147,12 @@ opj-jp2-read-header-procedure-spec =
     turned-down-requires-3
     returns-6
     enum-told-3
-    cast-size
+    next-requires
     sub-rest
     part-rest-start
     part-rest-end
-    add-at
+    next-requires-2
+    cast-at
     loop-less
     loop-again
     over-requires-2

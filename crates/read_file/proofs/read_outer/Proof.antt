@@ -1,13 +1,12 @@
 -- `read_file::read_outer` meets its contract.
 -- Assumes nothing.
 use native.Mathlib.Omega.{arith}
-use mathlib.Core.Path.{refl, ap, _∙_}
+use mathlib.Core.Path.{refl, ap}
 use Rattle.box_number.proofs.Rows.{row}
-use Rattle.box_kind.specs.Kind.{numberOf}
+use Rattle.box_kind.specs.Kind.{tag}
 use Rattle.read_record.proofs.Told.{told}
 use Rattle.read_file.specs.File.{outer}
-use Rattle.read_file.specs.Turn.{inner}
-use Rattle.read_file.proofs.Turns.{not-read, outer-inner}
+use Rattle.read_file.proofs.Turns.{outer-header, outer-other}
 use borrow.Author.Needs.{needs}
 use Rattle.read_file.proofs.read_outer.Statement.{statement}
 use Rattle.read_file.proofs.read_outer.Tie as tie
@@ -24,19 +23,25 @@ enum-told-2 c = search needs
 opj-jp2-read-ftyp-requires : tie.Need-opj-jp2-read-ftyp-requires
 opj-jp2-read-ftyp-requires c κs = tt
 
-read-inner-requires : tie.Need-read-inner-requires
-read-inner-requires c κs = tt
+read-header-requires : tie.Need-read-header-requires
+read-header-requires c κs = tt
+
+read-other-requires : tie.Need-read-other-requires
+read-other-requires c κs = tt
 
 returns : tie.Need-returns
 unfolding outer
-returns c = let n = ap numberOf (c .before .enum-told .given .1) in told _ _ _ (c .opj-jp2-read-jp .ensures) (row 0 _ (omega arith) refl)
+returns c = let n = ap tag (c .before .enum-told .given .1) in told _ _ _ (c .opj-jp2-read-jp .ensures) (row 0 _ (omega arith) refl)
 
 returns-2 : tie.Need-returns-2
 unfolding outer
-returns-2 c = let n = ap numberOf (c .before .enum-told2 .given .1) in told _ _ _ (c .opj-jp2-read-ftyp .ensures) (row 1 _ (omega arith) refl)
+returns-2 c = let n = ap tag (c .before .enum-told2 .given .1) in told _ _ _ (c .opj-jp2-read-ftyp .ensures) (row 1 _ (omega arith) refl)
 
 returns-3 : tie.Need-returns-3
-returns-3 c = let a = c .before .before .before .args in let p = c .before .before .before .pre in let m = not-read (p .0) (c .before .match .keys3) in told _ _ _ (c .read-inner .ensures) (ap (λ t. inner t (a .at) (a .start) (a .c .now) (a .k)) (p .0) ∙ outer-inner (numberOf (a .ty)) (a .at) (a .start) (a .c .now) (a .k) (m .0) (m .1) (p .1))
+returns-3 c = let a = c .before .before .before .args in told _ _ _ (c .read-header .ensures) (outer-header (a .ty) (a .at) (a .start) (a .c .now) (a .k) (c .before .match .keys3) (c .before .before .before .pre))
+
+returns-4 : tie.Need-returns-4
+returns-4 c = let a = c .before .before .before .args in told _ _ _ (c .read-other .ensures) (outer-other (a .ty) (a .at) (a .start) (a .c .now) (a .k) (c .before .match .keys4))
 
 pub read-outer-spec : {M : Type 1} → statement M
 read-outer-spec =
@@ -46,7 +51,9 @@ read-outer-spec =
     opj-jp2-read-jp-requires
     enum-told-2
     opj-jp2-read-ftyp-requires
-    read-inner-requires
+    read-header-requires
+    read-other-requires
     returns
     returns-2
-    returns-3)
+    returns-3
+    returns-4)

@@ -6,7 +6,7 @@ use Rattle.box_number.proofs.Rows.{row, said}
 use Rattle.read_record.specs.Answer.{Result}
 use Rattle.read_record.proofs.Told.{answer-done, answer-refused}
 use Rattle.read_file.specs.File.{ended, thenWalk, other}
-use Rattle.read_file.specs.Turn.{boxAt, isRead, pastKind}
+use Rattle.read_file.specs.Private.Turn.{boxAt, isRead}
 use Rattle.read_file.proofs.Turns.{gives, gives-end}
 use borrow.Author.Needs.{needs}
 use Rattle.read_file.proofs.read_past.Statement.{statement}
@@ -19,7 +19,6 @@ turned-down-requires : tie.Need-turned-down-requires
 turned-down-requires c κs = tt
 
 returns : tie.Need-returns
-unfolding pastKind
 returns c = let r = said true (isRead (c .before .before .before .args .ty)) (sym (c .before .before .is-read .ensures) ∙ c .before .if1 .taken) in gives _ _ _ (c .turned-down .ensures) (row 0 _ r refl)
 
 read-other-requires : tie.Need-read-other-requires
@@ -32,8 +31,7 @@ turned-down-requires-2 : tie.Need-turned-down-requires-2
 turned-down-requires-2 c κs = tt
 
 returns-2 : tie.Need-returns-2
-unfolding pastKind
-returns-2 c = let a = c .before .before .before .before .before .before .before .args in let r = said false (isRead (a .ty)) (sym (c .before .before .before .before .before .before .is-read .ensures) ∙ c .before .before .before .before .before .if1 .left) in gives _ _ _ (c .turned-down2 .ensures) (row 1 _ (r, tt) (sym (ap (λ (x : Result). thenWalk x ended) (answer-refused (a .k) (other (boxAt (a .at) 0) (a .k)) (c .before .before .before .before .read-other .ensures) (c .before .before .answer .given .1)))))
+returns-2 c = let a = c .before .before .before .before .before .before .before .args in let r = said false (isRead (a .ty)) (sym (c .before .before .before .before .before .before .is-read .ensures) ∙ c .before .before .before .before .before .if1 .left) in gives _ _ _ (c .turned-down2 .ensures) (row 1 _ (r, tt) (sym (ap (λ (x : Result). thenWalk x ended) (answer-refused (a .k) (other (boxAt (a .ty) (a .at) 0) (a .k)) (c .before .before .before .before .read-other .ensures) (c .before .before .answer .given .1)))))
 
 enum-told : tie.Need-enum-told
 enum-told c = search needs
@@ -42,8 +40,7 @@ over-requires : tie.Need-over-requires
 over-requires c κs = tt
 
 returns-3 : tie.Need-returns-3
-unfolding pastKind
-returns-3 c = let a = c .before .before .before .before .before .before .args in let r = said false (isRead (a .ty)) (sym (c .before .before .before .before .before .is-read .ensures) ∙ c .before .before .before .before .if1 .left) in gives-end (a .j) _ _ (c .over .ensures) (row 1 _ (r, tt) (sym (ap (λ (x : Result). thenWalk x ended) (answer-done (a .k) (other (boxAt (a .at) 0) (a .k)) (c .before .before .before .read-other .ensures) (c .before .enum-told .given .1)))))
+returns-3 c = let a = c .before .before .before .before .before .before .args in let r = said false (isRead (a .ty)) (sym (c .before .before .before .before .before .is-read .ensures) ∙ c .before .before .before .before .if1 .left) in gives-end (a .j) _ _ (c .over .ensures) (row 1 _ (r, tt) (sym (ap (λ (x : Result). thenWalk x ended) (answer-done (a .k) (other (boxAt (a .ty) (a .at) 0) (a .k)) (c .before .before .before .read-other .ensures) (c .before .enum-told .given .1)))))
 
 pub read-past-spec : {M : Type 1} → statement M
 read-past-spec =

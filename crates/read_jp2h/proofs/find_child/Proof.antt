@@ -22,8 +22,8 @@ returns-2 c = let a = c .before .before .before .before .args in let s = a .c .n
 returns-3 : tie.Need-returns-3
 returns-3 c = let a = c .before .before .before .before .before .before .before .before .args in let s = a .c .now in let f = child-found s (c .before .before .before .before .before .read .ensures) (c .before .before .before .h .given .1) in next-fault (a .at) s (c .before .before .before .before .before .before .if1 .left) 11 (fault-11 s (f .1) (f .0 .whole) (f .0 .low) (omega arith)) (omega arith)
 
-cast-if3 : tie.Need-cast-if3
-cast-if3 c = search needs
+next-requires : tie.Need-next-requires
+next-requires c κs = tt
 
 returns-4 : tie.Need-returns-4
 returns-4 c = let a = c .before .before .before .before .before .before .before .before .before .before .args in let s = a .c .now in let f = child-found s (c .before .before .before .before .before .before .before .read .ensures) (c .before .before .before .before .before .h .given .1) in next-fault (a .at) s (c .before .before .before .before .before .before .before .before .if1 .left) 11 (fault-11 s (f .1) (f .0 .whole) (f .0 .low) (omega arith)) (omega arith)
@@ -34,4 +34,12 @@ returns-5 c = let a = c .before .before .before .before .before .before .before 
 pub find-child-spec : {M : Type 1} → statement M
 find-child-spec =
     tie.close
-    (tie.spec returns read-requires enum-known-h returns-2 returns-3 cast-if3 returns-4 returns-5)
+    (tie.spec
+    returns
+    read-requires
+    enum-known-h
+    returns-2
+    returns-3
+    next-requires
+    returns-4
+    returns-5)

@@ -1,15 +1,26 @@
 -- `read_jp2h::read_item` meets its contract.
 -- Assumes nothing.
+use mathlib.Core.Path.{ap, _∙_}
+use mathlib.Core.List.{List}
+use Prim.Native.Nat.{ℕ, _+_}
+use Rattle.box_header.proofs.Headers.{part-content}
 use Rattle.read_record.proofs.Told.{told}
+use Rattle.read_jp2h.specs.Child.{reader}
 use borrow.Author.Needs.{needs}
 use Rattle.read_jp2h.proofs.read_item.Statement.{statement}
 use Rattle.read_jp2h.proofs.read_item.Tie as tie
 
+cast-head : tie.Need-cast-head
+cast-head c = search needs
+
+content-length-requires : tie.Need-content-length-requires
+content-length-requires c κs = tt
+
 cast-part : tie.Need-cast-part
 cast-part c = search needs
 
-cast-part-2 : tie.Need-cast-part-2
-cast-part-2 c = search needs
+add-part : tie.Need-add-part
+add-part c = search needs
 
 part-requires : tie.Need-part-requires
 part-requires c κs = tt
@@ -21,9 +32,17 @@ read-content-requires : tie.Need-read-content-requires
 read-content-requires c κs = tt
 
 returns : tie.Need-returns
-returns c = told _ _ _ (c .read-content .ensures) (cc)
+returns c = let a = c .before .before .before .before .before .before .before .args in let h = a .b .header in told _ _ _ (c .read-content .ensures) (ap (λ (x : List ℕ). reader (h .ty) (a .b .place) (a .at + h .«header_length») x (a .k)) (c .before .before .part .ensures ∙ part-content (a .c .now) h (c .before .before .before .content-length .ensures)))
 
 pub read-item-spec : {M : Type 1} → statement M
 read-item-spec =
     tie.close
-    (tie.spec cast-part cast-part-2 part-requires add-start read-content-requires returns)
+    (tie.spec
+    cast-head
+    content-length-requires
+    cast-part
+    add-part
+    part-requires
+    add-start
+    read-content-requires
+    returns)

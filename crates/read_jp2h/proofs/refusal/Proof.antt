@@ -3,7 +3,7 @@
 use native.Mathlib.Omega.{arith}
 use mathlib.Core.Path.{refl}
 use Rattle.box_number.proofs.Rows.{row}
-use Rattle.read_jp2h.specs.Step.{refusal}
+use Rattle.read_jp2h.specs.Private.Step.{refusal}
 use Rattle.read_jp2h.proofs.refusal.Statement.{statement}
 use Rattle.read_jp2h.proofs.refusal.Tie as tie
 

@@ -12,7 +12,7 @@ returns : tie.Need-returns
 returns c = rw (c .enum-told .given .1)
 
 returns-2 : tie.Need-returns-2
-returns-2 c = let a = c .before .args in lacks-kept (a .b .ty) (a .lacks) (c .before .pre) (c .match .keys2)
+returns-2 c = let a = c .before .before .args in lacks-kept (a .b .header .ty) (a .lacks) (c .match .keys2)
 
 pub still-lacks-spec : {M : Type 1} → statement M
 still-lacks-spec = tie.close (tie.spec enum-told returns returns-2)

@@ -1,6 +1,7 @@
 -- `box_kind::Jp2BoxType::is_image_header` meets its contract.
 -- Assumes nothing.
 use mathlib.Core.Path.{sym, ap}
+use Rattle.box_number.specs.Table.{holds}
 use Rattle.box_kind.specs.Kind.{isImageHeader}
 use Rattle.box_kind.proofs.KindNumbers.{not-image}
 use borrow.Author.Needs.{needs}
@@ -26,22 +27,22 @@ enum-told-6 : tie.Need-enum-told-6
 enum-told-6 c = search needs
 
 returns : tie.Need-returns
-returns c = sym (ap isImageHeader (c .enum-told .given .1))
+returns c = sym (ap (λ k. holds (isImageHeader k)) (c .enum-told .given .1))
 
 returns-2 : tie.Need-returns-2
-returns-2 c = sym (ap isImageHeader (c .enum-told2 .given .1))
+returns-2 c = sym (ap (λ k. holds (isImageHeader k)) (c .enum-told2 .given .1))
 
 returns-3 : tie.Need-returns-3
-returns-3 c = sym (ap isImageHeader (c .enum-told3 .given .1))
+returns-3 c = sym (ap (λ k. holds (isImageHeader k)) (c .enum-told3 .given .1))
 
 returns-4 : tie.Need-returns-4
-returns-4 c = sym (ap isImageHeader (c .enum-told4 .given .1))
+returns-4 c = sym (ap (λ k. holds (isImageHeader k)) (c .enum-told4 .given .1))
 
 returns-5 : tie.Need-returns-5
-returns-5 c = sym (ap isImageHeader (c .enum-told5 .given .1))
+returns-5 c = sym (ap (λ k. holds (isImageHeader k)) (c .enum-told5 .given .1))
 
 returns-6 : tie.Need-returns-6
-returns-6 c = sym (ap isImageHeader (c .enum-told6 .given .1))
+returns-6 c = sym (ap (λ k. holds (isImageHeader k)) (c .enum-told6 .given .1))
 
 returns-7 : tie.Need-returns-7
 returns-7 c = not-image (c .before .args .self) (c .match .keys7)
