@@ -1,8 +1,8 @@
 -- `cuzhantir::cuzhantir_finish` meets its contract.
 -- Assumes nothing.
-use mathlib.Core.Path.{ap, _∙_}
-use Rattle.export_numbers.proofs.Rooms.{short, long, same-reply}
-use Rattle.cuzhantir.specs.Replies.{ofFinished}
+use Rattle.export_rules.specs.Places.{answerLength}
+use Rattle.export_rules.specs.Answers.{ofFinished}
+use Rattle.export_rules.proofs.Room.{short, long, answer-given}
 use Rattle.cuzhantir.proofs.cuzhantir_finish.Statement.{statement}
 use Rattle.cuzhantir.proofs.cuzhantir_finish.Tie as tie
 
@@ -10,33 +10,31 @@ returns : tie.Need-returns
 returns c =
     let d = c .before .before .before .before .before .before .args .answer .now in
     let h = c .if1 .taken in
-    (short 4 d _ _ h, (short 4 d _ _ h, (short 4 d _ _ h, short 4 d _ _ h)))
+    (short answerLength d _ _ h, (short answerLength d _ _ h, (short answerLength d _ _ h, short answerLength d _ _ h)))
 
 finish-reading-requires : tie.Need-finish-reading-requires
 finish-reading-requires c κs = tt
 
-finished-requires : tie.Need-finished-requires
-finished-requires c κs = tt
-
-give-reply-requires : tie.Need-give-reply-requires
-give-reply-requires c κs = tt
+give-finished-requires : tie.Need-give-finished-requires
+give-finished-requires c κs = c .before .before .before .before .before .before .before .if1 .left
 
 same-length : tie.Need-same-length
-same-length c = c .before .before .before .before .before .before .before .records .given
+same-length c = c .before .before .before .before .before .before .records .given
 
 same-length-2 : tie.Need-same-length-2
-same-length-2 c = c .before .before .before .before .before .planes .given
+same-length-2 c = c .before .before .before .before .planes .given
 
 same-length-3 : tie.Need-same-length-3
 same-length-3 c = c .before .answer .given
 
 returns-2 : tie.Need-returns-2
 returns-2 c =
-    let d = c .before .before .before .before .before .before .before .before .before .before .before .before .before .before .before .before .before .args .answer .now in
-    let h = c .before .before .before .before .before .before .before .before .before .before .before .if1 .left in
-    let e = c .before .before .before .before .before .before .before .before .finish-reading .ensures in
-    let g = same-reply d (c .before .before .before .before .finished .ensures ∙ ap ofFinished (e .0)) (c .before .before .give-reply .ensures) in
-    (g .0, (g .1, (long 4 d _ _ h (e .1 .0), long 4 d _ _ h (e .1 .1))))
+    let d = c .before .before .before .before .before .before .before .before .before .before .before .before .before .before .before .before .args .answer .now in
+    let h = c .before .before .before .before .before .before .before .before .before .before .if1 .left in
+    let e = c .before .before .before .before .before .before .before .finish-reading .ensures in
+    let g = c .before .before .give-finished .ensures in
+    let a = answer-given ofFinished d h (e .0) g in
+    (a .0, (a .1, (long answerLength d _ _ h (e .1 .0), long answerLength d _ _ h (e .1 .1))))
 
 pub cuzhantir-finish-spec : {M : Type 1} → statement M
 cuzhantir-finish-spec =
@@ -44,8 +42,7 @@ cuzhantir-finish-spec =
     (tie.spec
     returns
     finish-reading-requires
-    finished-requires
-    give-reply-requires
+    give-finished-requires
     same-length
     same-length-2
     same-length-3

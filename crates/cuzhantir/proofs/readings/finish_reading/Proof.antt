@@ -1,0 +1,75 @@
+-- `cuzhantir::readings::finish_reading` meets its contract.
+-- Assumes nothing.
+use native.Mathlib.Omega.{arith}
+use mathlib.Core.Path.{sym, ap, _∙_}
+use mathlib.Core.Bool.{true, false}
+use Rattle.box_number.proofs.Rows.{said}
+use Rattle.read_record.specs.declared.Jp2.{Jp2}
+use Rattle.picture_rules.specs.Finish.{Finishing, finish}
+use Rattle.picture_finish.specs.Answers.{answered, recordsAfter, samplesAfter}
+use Rattle.picture_finish.specs.Whole.{handed}
+use Rattle.export_rules.specs.FinishReading.{noReading}
+use Rattle.export_rules.proofs.FinishReading.{none, refused, on, declines}
+use Rattle.cuzhantir.proofs.Accepted.{taken}
+use borrow.Author.Needs.{needs}
+use Rattle.cuzhantir.proofs.readings.finish_reading.Statement.{statement}
+use Rattle.cuzhantir.proofs.readings.finish_reading.Tie as tie
+
+no-reading-requires : tie.Need-no-reading-requires
+no-reading-requires c κs = tt
+
+returns : tie.Need-returns
+returns c = let a = c .before .before .before .before .before .before .args in let h = handed (a .file .now) (a .ignore) (a .comps .now) (a .count) (a .samples .now) (a .records .now) (a .planes .now) in declines h (a .reading .now) (a .records .now) (a .planes .now) (none h (a .reading .now) (said true (noReading (a .reading .now)) (sym (c .before .no-reading .ensures) ∙ c .if1 .taken)))
+
+shared-slice-read-if2 : tie.Need-shared-slice-read-if2
+shared-slice-read-if2 c = let a = c .before .before .before .before .before .before .before .args in let t = taken (a .reading .now) (said false (noReading (a .reading .now)) (sym (c .before .before .no-reading .ensures) ∙ c .before .if1 .left)) in omega (arith, t .long)
+
+shared-slice-read-t15 : tie.Need-shared-slice-read-t15
+shared-slice-read-t15 c = let a = c .before .before .before .before .before .before .before .before .before .args in let t = taken (a .reading .now) (said false (noReading (a .reading .now)) (sym (c .before .before .before .before .no-reading .ensures) ∙ c .before .before .before .if1 .left)) in omega (arith, t .long)
+
+cast-t16 : tie.Need-cast-t16
+cast-t16 c = let a = c .before .before .before .before .before .before .before .before .before .args in let f = said false (noReading (a .reading .now)) (sym (c .before .before .before .before .no-reading .ensures) ∙ c .before .before .before .if1 .left) in omega (arith, (f .1 .1 .0 (c .before .if2 .taken)) .1)
+
+shared-slice-read-t18 : tie.Need-shared-slice-read-t18
+shared-slice-read-t18 c = let a = c .before .before .before .before .before .before .before .before .before .before .args in let t = taken (a .reading .now) (said false (noReading (a .reading .now)) (sym (c .before .before .before .before .before .no-reading .ensures) ∙ c .before .before .before .before .if1 .left)) in omega (arith, t .long)
+
+returns-2 : tie.Need-returns-2
+returns-2 c = let a = c .before .before .before .before .before .before .before .before .before .before .args in let h = handed (a .file .now) (a .ignore) (a .comps .now) (a .count) (a .samples .now) (a .records .now) (a .planes .now) in declines h (a .reading .now) (a .records .now) (a .planes .now) (refused h (a .reading .now) (said false (noReading (a .reading .now)) (sym (c .before .before .before .before .before .no-reading .ensures) ∙ c .before .before .before .before .if1 .left)) (c .before .before .if2 .taken))
+
+record-of-requires : tie.Need-record-of-requires
+record-of-requires c κs = let a = c .before .before .before .before .before .before .before .before .args in taken (a .reading .now) (said false (noReading (a .reading .now)) (sym (c .before .before .before .no-reading .ensures) ∙ c .before .before .if1 .left))
+
+opj-jp2-apply-color-postprocessing-requires : tie.Need-opj-jp2-apply-color-postprocessing-requires
+opj-jp2-apply-color-postprocessing-requires c κs = tt
+
+same-length : tie.Need-same-length
+same-length c = search needs
+
+same-length-2 : tie.Need-same-length-2
+same-length-2 c = search needs
+
+returns-3 : tie.Need-returns-3
+returns-3 c =
+    let a = c .before .before .before .before .before .before .before .before .before .before .before .before .before .before .before .args in
+    let h = handed (a .file .now) (a .ignore) (a .comps .now) (a .count) (a .samples .now) (a .records .now) (a .planes .now) in
+    let f = said false (noReading (a .reading .now)) (sym (c .before .before .before .before .before .before .before .before .before .before .no-reading .ensures) ∙ c .before .before .before .before .before .before .before .before .before .if1 .left) in
+    let e = c .before .before .before .opj-jp2-apply-color-postprocessing .ensures in
+    let is = on h (a .reading .now) f (c .before .before .before .before .before .before .before .if2 .left) ∙ ap (λ (m : Jp2). finish (h .file) m (h .ignore) (h .image) (h .records) (h .samples)) (sym (c .before .before .before .before .before .before .record-of .ensures)) in
+    (e .0 ∙ ap answered (sym is), (e .1 .0 ∙ ap (λ (x : Finishing). recordsAfter x (a .records .now)) (sym is), e .1 .1 ∙ ap (λ (x : Finishing). samplesAfter x (a .planes .now)) (sym is)))
+
+pub finish-reading-spec : {M : Type 1} → statement M
+finish-reading-spec =
+    tie.close
+    (tie.spec
+    no-reading-requires
+    returns
+    shared-slice-read-if2
+    shared-slice-read-t15
+    cast-t16
+    shared-slice-read-t18
+    returns-2
+    record-of-requires
+    opj-jp2-apply-color-postprocessing-requires
+    same-length
+    same-length-2
+    returns-3)

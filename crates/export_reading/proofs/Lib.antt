@@ -1,3 +1,0 @@
-pub mod Agains
-pub mod Lents
-pub mod Steps

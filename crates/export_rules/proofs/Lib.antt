@@ -1,0 +1,6 @@
+pub mod Places
+pub mod Room
+pub mod ThreeLists
+pub mod FinishReading
+pub mod TwoSteps
+pub mod Rule

@@ -1,0 +1,29 @@
+-- The four numbers of an answer of finishing or writing.
+use Prim.Native.Nat.{ℕ}
+use mathlib.Core.List.{List, [], _∷_}
+use lib.ListN.{getD}
+use Rattle.picture_finish.specs.declared.Finished.{Finished}
+use Rattle.picture_finish.specs.declared.Finished.the-variants as finished
+use Rattle.write_boxes.specs.declared.Written.{Written}
+use Rattle.write_boxes.specs.declared.Written.the-variants as written
+use Rattle.export_rules.specs.Places.{answerNumber, answerDone, answerRefused}
+
+-- 0, and the number of planes or bytes
+abbrev pub done : ℕ → List ℕ
+done count = answerDone ∷ 0 ∷ 0 ∷ count ∷ []
+
+-- 1, document 01's number, and its index or needed length
+abbrev pub refused : ℕ → ℕ → List ℕ
+refused number place = answerRefused ∷ number ∷ place ∷ 0 ∷ []
+
+abbrev pub ofFinished : Finished → List ℕ
+ofFinished (finished.Planes n) = done n
+ofFinished (finished.Refused number place) = refused number place
+
+abbrev pub ofWritten : Written → List ℕ
+ofWritten (written.Bytes n) = done n
+ofWritten (written.Refused number place) = refused number place
+
+-- what an entry returns for an answer: document 01's number, 0 for what is done
+abbrev pub returned : List ℕ → ℕ
+returned answer = getD answer answerNumber 0
