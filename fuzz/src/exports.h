@@ -1,42 +1,80 @@
-// The exports of libcuzhantir.a, and the places of the numbers in the lists that they give.
+// Short names for the numbers of include/cuzhantir_jp2.h, which declares the exports and says where each number is.
 #ifndef EXPORTS_H
 #define EXPORTS_H
 
-#include <stddef.h>
-#include <stdint.h>
+#include "../../include/cuzhantir_jp2.h"
 
-uint32_t cuzhantir_read(const uint8_t *file, size_t file_len, uint64_t *reading, size_t reading_len);
-uint32_t cuzhantir_finish(const uint8_t *file, size_t file_len, const uint64_t *reading, size_t reading_len, uint32_t ignore,
-                          const uint32_t *comps, size_t comps_len, uint32_t count, const int32_t *samples, size_t samples_len,
-                          uint32_t *records, size_t records_len, int32_t *planes, size_t planes_len,
-                          uint64_t *answer, size_t answer_len);
-uint32_t cuzhantir_picture(const uint8_t *file, size_t file_len, uint32_t ignore,
-                           const uint32_t *comps, size_t comps_len, uint32_t count, const int32_t *samples, size_t samples_len,
-                           uint32_t *records, size_t records_len, int32_t *planes, size_t planes_len,
-                           uint64_t *answer, size_t answer_len);
-uint32_t cuzhantir_write(const uint32_t *comps, size_t comps_len, uint32_t count, uint32_t x0, uint32_t y0, uint32_t x1, uint32_t y1,
-                         uint32_t space, const uint8_t *profile, size_t profile_len, uint64_t codestream,
-                         uint8_t *d, size_t d_len, uint64_t *answer, size_t answer_len);
-
-// A reading: kind, value, place, then the record.
+// A reading.
 enum {
-    KIND, VALUE, PLACE,
-    IMAGE_H, IMAGE_W, NUMCOMPS, BPC, IMAGE_C, UNKC, IPR,
-    METH, PRECEDENCE, APPROX, ENUMCS, LAB, LAB_COUNT = LAB + 9, HELD,
-    BRAND, MINVERSION,
-    CL_PLACE, CL_COUNT, BPCC_PLACE, BPCC_COUNT, ICC_PLACE, ICC_COUNT,
-    PCLR_PLACE, PCLR_ENTRIES, PCLR_COLUMNS, CMAP_PLACE, CMAP_COUNT, CDEF_PLACE, CDEF_COUNT,
-    STATE, IMGSTATE, HAS_JP2H, HAS_IHDR,
-    READING_NUMBERS
+    KIND = CUZHANTIR_READING_KIND,
+    VALUE = CUZHANTIR_READING_VALUE,
+    PLACE = CUZHANTIR_READING_PLACE,
+    IMAGE_H = CUZHANTIR_READING_H,
+    IMAGE_W = CUZHANTIR_READING_W,
+    NUMCOMPS = CUZHANTIR_READING_NUMCOMPS,
+    BPC = CUZHANTIR_READING_BPC,
+    IMAGE_C = CUZHANTIR_READING_C,
+    UNKC = CUZHANTIR_READING_UNKC,
+    IPR = CUZHANTIR_READING_IPR,
+    METH = CUZHANTIR_READING_METH,
+    PRECEDENCE = CUZHANTIR_READING_PRECEDENCE,
+    APPROX = CUZHANTIR_READING_APPROX,
+    ENUMCS = CUZHANTIR_READING_ENUMCS,
+    LAB = CUZHANTIR_READING_LAB_0,
+    LAB_COUNT = CUZHANTIR_READING_LAB_COUNT,
+    HELD = CUZHANTIR_READING_HELD,
+    BRAND = CUZHANTIR_READING_BRAND,
+    MINVERSION = CUZHANTIR_READING_MINVERSION,
+    CL_PLACE = CUZHANTIR_READING_CL_PLACE,
+    CL_COUNT = CUZHANTIR_READING_CL_COUNT,
+    BPCC_PLACE = CUZHANTIR_READING_BPCC_PLACE,
+    BPCC_COUNT = CUZHANTIR_READING_BPCC_COUNT,
+    ICC_PLACE = CUZHANTIR_READING_ICC_PLACE,
+    ICC_COUNT = CUZHANTIR_READING_ICC_COUNT,
+    PCLR_PLACE = CUZHANTIR_READING_PCLR_PLACE,
+    PCLR_ENTRIES = CUZHANTIR_READING_PCLR_ENTRIES,
+    PCLR_COLUMNS = CUZHANTIR_READING_PCLR_COLUMNS,
+    CMAP_PLACE = CUZHANTIR_READING_CMAP_PLACE,
+    CMAP_COUNT = CUZHANTIR_READING_CMAP_COUNT,
+    CDEF_PLACE = CUZHANTIR_READING_CDEF_PLACE,
+    CDEF_COUNT = CUZHANTIR_READING_CDEF_COUNT,
+    STATE = CUZHANTIR_READING_STATE,
+    IMGSTATE = CUZHANTIR_READING_IMGSTATE,
+    HAS_JP2H = CUZHANTIR_READING_HASJP2H,
+    HAS_IHDR = CUZHANTIR_READING_HASIHDR,
+    READING_NUMBERS = CUZHANTIR_READING_LENGTH,
+    CODESTREAM = CUZHANTIR_READING_CODESTREAM,
+    ENDED = CUZHANTIR_READING_ENDED,
+    REFUSED = CUZHANTIR_READING_REFUSED,
 };
-enum { CODESTREAM, ENDED, REFUSED };
 
-// An answer of finishing or writing: kind (0 done, 1 refused), number, place, then planes or bytes.
-enum { ANSWER_KIND, ANSWER_NUMBER, ANSWER_PLACE, ANSWER_COUNT, ANSWER_NUMBERS };
+// An answer of finishing or writing.
+enum {
+    ANSWER_KIND = CUZHANTIR_ANSWER_KIND,
+    ANSWER_NUMBER = CUZHANTIR_ANSWER_NUMBER,
+    ANSWER_PLACE = CUZHANTIR_ANSWER_PLACE,
+    ANSWER_COUNT = CUZHANTIR_ANSWER_COUNT,
+    ANSWER_NUMBERS = CUZHANTIR_ANSWER_LENGTH,
+};
 
-// A component: 13 numbers.
-enum { DX, DY, W, H, X0, Y0, PREC, BPP, SGND, RESNO, FACTOR, DATA, ALPHA, COMPONENT_NUMBERS };
-#define NONE UINT32_C(4294967295)
+// A component.
+enum {
+    DX = CUZHANTIR_COMPONENT_DX,
+    DY = CUZHANTIR_COMPONENT_DY,
+    W = CUZHANTIR_COMPONENT_W,
+    H = CUZHANTIR_COMPONENT_H,
+    X0 = CUZHANTIR_COMPONENT_X0,
+    Y0 = CUZHANTIR_COMPONENT_Y0,
+    PREC = CUZHANTIR_COMPONENT_PREC,
+    BPP = CUZHANTIR_COMPONENT_BPP,
+    SGND = CUZHANTIR_COMPONENT_SGND,
+    RESNO = CUZHANTIR_COMPONENT_RESNO_DECODED,
+    FACTOR = CUZHANTIR_COMPONENT_FACTOR,
+    DATA = CUZHANTIR_COMPONENT_DATA,
+    ALPHA = CUZHANTIR_COMPONENT_ALPHA,
+    COMPONENT_NUMBERS = CUZHANTIR_COMPONENT_LENGTH,
+};
+#define NONE CUZHANTIR_NO_SAMPLES
 #define MOST_COMPONENTS 16384u
 #define MOST_SAMPLES UINT64_C(4294967294)
 
