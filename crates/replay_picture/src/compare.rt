@@ -1,15 +1,24 @@
-// A picture's answer and destinations against the list. The first difference is said.
+// Compares a picture's answer and destinations with the list. Prints the first difference.
 use crate::list;
 use crate::put;
-use crate::say;
+use test_lines::at;
+use test_lines::say;
 
-// The place in the tally of what picture i came to: 31 where it differs or the list has ended, else 0 or the number of the refusal.
+// How many numbers an answer has, and the position of document 01's.
+const ANSWER_LENGTH: usize = 4;
+
+const ANSWER_NUMBER: usize = 1;
+
+// The count of the tally for pictures that differ.
+const DIFFERING: usize = 31;
+
+// The count of the tally for picture i: DIFFERING where it differs or the list has ended, else 0 or the number of the refusal.
 pub fn outcome(i: u32, picture: &[u8], answer: &[u64], records: &[u32], planes: &[i32]) -> usize {
     if picture.len() == 0 {
         return differs(b"case #: the list has ended\n", i, 0);
     }
     let a = first_number(picture, answer);
-    if a < 4 {
+    if a < ANSWER_LENGTH {
         return differs(b"case #: the answer differs at #\n", i, a);
     }
     let r = first_record(list::records(picture), records);
@@ -20,19 +29,19 @@ pub fn outcome(i: u32, picture: &[u8], answer: &[u64], records: &[u32], planes: 
     if s < planes.len() {
         return differs(b"case #: the samples differ at #\n", i, s);
     }
-    crate::at(answer, 1) as usize
+    at(answer, ANSWER_NUMBER) as usize
 }
 
 fn differs(shape: &[u8], i: u32, k: usize) -> usize {
     say(shape, &[i as usize, k]);
-    31
+    DIFFERING
 }
 
 // The first number of the answer that differs, 4 where none does.
 fn first_number(picture: &[u8], answer: &[u64]) -> usize {
     let mut k = 0;
-    while k < 4 {
-        if crate::at(answer, k) != list::answer_number(picture, k) {
+    while k < ANSWER_LENGTH {
+        if at(answer, k) != list::answer_number(picture, k) {
             return k;
         }
         k = k + 1;

@@ -4,6 +4,13 @@ ghost use Prim.Native.Nat.{_≤_};
 ghost use mathlib.Core.Path.{_≡_};
 ghost use mir.Syntax.{w32};
 ghost use mir.Val.{toZ};
+use test_lines::say;
+
+// The bytes of a component's 13 numbers.
+const RECORD_BYTES: usize = 52;
+
+// The bytes of the two lengths and the five numbers of the answer.
+const ROOMS_BYTES: usize = 28;
 
 // Number i of those in front.
 pub fn number(s: &[u8], i: usize) -> u32 {
@@ -14,7 +21,7 @@ pub fn number(s: &[u8], i: usize) -> u32 {
     }
 }
 
-// The same as the length of a list; one that has no room is said and cut.
+// The same as the length of a list. One that is longer than most is cut, and that is printed.
 pub fn length(s: &[u8], i: usize, most: usize) -> usize
     ensures { λ r. ⌜ r ≤ most ⌝ }
 {
@@ -22,7 +29,7 @@ pub fn length(s: &[u8], i: usize, most: usize) -> usize
     if n <= most {
         return n;
     }
-    crate::say(b"no room for a list of #\n", &[n]);
+    say(b"no room for a list of #\n", &[n]);
     most
 }
 
@@ -73,13 +80,21 @@ pub fn answer_number(picture: &[u8], k: usize) -> u64 {
 // The finished records, and no more.
 pub fn records(picture: &[u8]) -> &[u8] {
     let s = rooms(picture);
-    box_number::part(s, 28, number(s, 6) as usize * 52 + 28)
+    box_number::part(
+        s,
+        ROOMS_BYTES,
+        number(s, 6) as usize * RECORD_BYTES + ROOMS_BYTES,
+    )
 }
 
 // The finished samples.
 pub fn planes(picture: &[u8]) -> &[u8] {
     let s = rooms(picture);
-    box_number::part(s, number(s, 6) as usize * 52 + 28, s.len())
+    box_number::part(
+        s,
+        number(s, 6) as usize * RECORD_BYTES + ROOMS_BYTES,
+        s.len(),
+    )
 }
 
 // The bytes of the picture.

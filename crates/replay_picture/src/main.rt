@@ -1,15 +1,19 @@
-// Finishes each picture of a list and compares the answer and every number of both destinations with what the list holds, which is the crate's answer.
+// Finishes each picture of a list and compares the answer and every number of both destinations with those in the list, which are the crate's answer.
 // The list is made of the seed 1; oracle/README.md has its form ("The replay list").
 ghost use mathlib.Core.Path.{_≡_};
 ghost use lib.ListN.{length};
 use libc::STDIN_FILENO;
-use libc::STDOUT_FILENO;
+use test_lines::count;
+use test_lines::say;
 
 mod compare;
 mod list;
 mod put;
 
-// tally counts what the pictures come to: finished in place 0, the refusal n in place n, those that differ from the list in place 31.
+// The most elements of a list that is handed in, and of a destination for records.
+const MOST: usize = 128;
+
+// The tally counts finished pictures at 0, the refusal n at n, and pictures that differ from the list at DIFFERING of compare.
 fn main() {
     let mut list = list_room();
     let n = io::read_full(STDIN_FILENO, &mut list);
@@ -68,13 +72,6 @@ fn samples_room() -> [i32; 261120]
     [0; 261120]
 }
 
-// A shape in which each # stands for the next of the numbers.
-pub fn say(shape: &[u8], numbers: &[usize]) {
-    let mut d = io::buffer();
-    let n = text::fill(&mut d, 0, shape, numbers);
-    io::write_all(STDOUT_FILENO, box_number::part(&d, 0, n));
-}
-
 // How many cases there are.
 fn each_case(list: &[u8], room: &mut [i32], tally: &mut [usize]) -> u32 {
     let cases = list::number(list, 0);
@@ -89,19 +86,19 @@ fn each_case(list: &[u8], room: &mut [i32], tally: &mut [usize]) -> u32 {
     cases
 }
 
-// The place in the tally of what picture i comes to. Its lists are laid out first.
+// The count of the tally for picture i. Its lists are laid out first.
 fn case(i: u32, picture: &[u8], room: &mut [i32]) -> usize {
-    let mut comps = [0u32; 128];
-    let mut samples = [0i32; 128];
-    let mut records = [0u32; 128];
+    let mut comps = [0u32; MOST];
+    let mut samples = [0i32; MOST];
+    let mut records = [0u32; MOST];
     let listed_comps = list::components(picture);
-    let comps_length = list::length(listed_comps, 0, 128);
+    let comps_length = list::length(listed_comps, 0, MOST);
     put::numbers(listed_comps, &mut comps);
     let listed_samples = list::samples(picture);
-    let samples_length = list::length(listed_samples, 0, 128);
+    let samples_length = list::length(listed_samples, 0, MOST);
     put::samples(listed_samples, &mut samples);
     let rooms = list::rooms(picture);
-    let records_length = list::length(rooms, 0, 128);
+    let records_length = list::length(rooms, 0, MOST);
     let planes_length = list::length(rooms, 1, room.len());
     outcome(
         i,
@@ -136,15 +133,4 @@ fn outcome(
         &mut answer,
     );
     compare::outcome(i, picture, &answer, records, planes)
-}
-
-fn count(tally: &mut [usize], k: usize) {
-    if k < tally.len() {
-        tally[k] = std::num::wrapping_add_usize(tally[k], 1);
-    }
-}
-
-// Number i, 0 past the last.
-pub fn at(numbers: &[u64], i: usize) -> u64 {
-    if i < numbers.len() { numbers[i] } else { 0 }
 }

@@ -1,13 +1,27 @@
-// Reads each file of a list and compares all 44 numbers of its reading with those that the list holds, which are the crate's answers.
+// Reads each file of a list and compares all 44 numbers of its reading with those in the list, which are the crate's answers.
 // The list, whose numbers have 4 bytes each: how many cases there are; then for each case the file's length, the file, and the 44 numbers.
 // It is made of three pictures and the seed 1 (oracle/README.md, "The replay list").
 ghost use Prim.Native.Nat.{_≤_};
 ghost use mathlib.Core.Path.{_≡_};
 ghost use lib.ListN.{length};
 use libc::STDIN_FILENO;
-use libc::STDOUT_FILENO;
+use test_lines::at;
+use test_lines::count;
+use test_lines::say;
 
-// tally counts what the files come to: the codestream in place 0, the refusal n in place n, "ended" in place 25, those that differ from the list in place 26.
+// How many numbers a reading has.
+const READING_LENGTH: usize = 44;
+
+// The bytes of a case beside its file: its length and the numbers, of 4 bytes each.
+const BESIDE_FILE: usize = 180;
+
+// The counts of the tally: CODESTREAM for a codestream, n for the refusal n, then these two.
+const CODESTREAM: usize = 0;
+
+const ENDED: usize = 25;
+
+const DIFFERING: usize = 26;
+
 fn main() {
     let mut list = room();
     let n = io::read_full(STDIN_FILENO, &mut list);
@@ -46,13 +60,6 @@ fn main() {
     );
 }
 
-// A shape in which each # stands for the next of the numbers.
-fn say(shape: &[u8], numbers: &[usize]) {
-    let mut d = io::buffer();
-    let n = text::fill(&mut d, 0, shape, numbers);
-    io::write_all(STDOUT_FILENO, box_number::part(&d, 0, n));
-}
-
 // The list has to fit in.
 fn room() -> [u8; 1500000]
     ensures { λ r. ⌜ 1500000 ≡ length r ⌝ }
@@ -78,7 +85,7 @@ fn each_case(list: &[u8], tally: &mut [usize]) -> u32 {
 fn case_length(rest: &[u8]) -> usize
     ensures { λ r. do ⌜ r ≤ (← ⟦rest.len()⟧ .entry) ⌝ }
 {
-    let whole = box_number::read_u32(rest, 0) as usize + 180;
+    let whole = box_number::read_u32(rest, 0) as usize + BESIDE_FILE;
     if whole < rest.len() {
         whole
     } else {
@@ -86,18 +93,18 @@ fn case_length(rest: &[u8]) -> usize
     }
 }
 
-// The place in the tally of what file i comes to.
+// The count of the tally for file i.
 fn case(i: u32, rest: &[u8]) -> usize {
     let end = box_number::read_u32(rest, 0) as usize + 4;
-    let mut numbers = [0u64; 44];
+    let mut numbers = [0u64; READING_LENGTH];
     cuzhantir::cuzhantir_read(box_number::part(rest, 4, end), &mut numbers);
     outcome(i, box_number::part(rest, end, rest.len()), &numbers)
 }
 
-// The same, once it is read: the first number that differs is said.
+// The same, after reading. Prints the first number that differs.
 fn outcome(i: u32, answer: &[u8], numbers: &[u64]) -> usize {
     let first = first_difference(answer, numbers);
-    if first < 44 {
+    if first < READING_LENGTH {
         let listed = box_number::read_u32(answer, first * 4);
         say(
             b"case #, number #: #, and not #\n",
@@ -108,18 +115,12 @@ fn outcome(i: u32, answer: &[u8], numbers: &[u64]) -> usize {
                 listed as usize,
             ],
         );
-        return 26;
+        return DIFFERING;
     }
     match at(numbers, 0) {
-        0 => 0,
-        1 => 25,
+        0 => CODESTREAM,
+        1 => ENDED,
         _ => at(numbers, 1) as usize,
-    }
-}
-
-fn count(tally: &mut [usize], k: usize) {
-    if k < tally.len() {
-        tally[k] = std::num::wrapping_add_usize(tally[k], 1);
     }
 }
 
@@ -128,16 +129,11 @@ fn first_difference(answer: &[u8], numbers: &[u64]) -> usize
     ensures { λ r. ⌜ r ≤ 44 ⌝ }
 {
     let mut i = 0;
-    while i < 44 {
+    while i < READING_LENGTH {
         if box_number::read_u32(answer, i * 4) as u64 != at(numbers, i) {
             return i;
         }
         i = i + 1;
     }
     i
-}
-
-// Number i, 0 past the last.
-fn at(numbers: &[u64], i: usize) -> u64 {
-    if i < numbers.len() { numbers[i] } else { 0 }
 }

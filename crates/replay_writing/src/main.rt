@@ -1,4 +1,4 @@
-// Writes each request of a list and compares the four numbers of the answer and every byte of the destination with what the list holds, which are the crate's answers.
+// Writes each request of a list and compares the four numbers of the answer and every byte of the destination with those in the list, which are the crate's answers.
 // The list, whose numbers have 4 bytes each: how many cases there are; then for each case
 //   0 to 6    the length of the list of components, the count, x0, y0, x1, y1, the colour space
 //   7 to 10   the length of the profile, of the codestream (high word, low word), of the destination
@@ -9,14 +9,44 @@ ghost use Prim.Native.Nat.{_≤_};
 ghost use mathlib.Core.Path.{_≡_};
 ghost use lib.ListN.{length};
 use libc::STDIN_FILENO;
-use libc::STDOUT_FILENO;
+use test_lines::at;
+use test_lines::count;
+use test_lines::say;
 
-// tally counts what the requests come to: written in place 0, the refusal n in place n, those that differ from the list in place 35.
+// The numbers of a case: the lengths of the components, the profile, the codestream's high and low word, the destination; then the answer.
+const COMPS: usize = 0;
+
+const PROFILE: usize = 7;
+
+const CODESTREAM_HIGH: usize = 8;
+
+const CODESTREAM_LOW: usize = 9;
+
+const DESTINATION: usize = 10;
+
+const ANSWER: usize = 11;
+
+const WRITTEN: usize = 14;
+
+// The bytes of the 15 numbers.
+const NUMBERS_BYTES: usize = 60;
+
+// How many numbers an answer has, and the position of document 01's.
+const ANSWER_LENGTH: usize = 4;
+
+const ANSWER_NUMBER: usize = 1;
+
+// The most numbers of a list of components, and bytes of a destination.
+const MOST: usize = 4096;
+
+// The tally counts written requests at 0, the refusal n at n, and those that differ from the list at DIFFERING.
+const DIFFERING: usize = 35;
+
 fn main() {
     let mut list = room();
     let n = io::read_full(STDIN_FILENO, &mut list);
-    let mut comps = [0u32; 4096];
-    let mut d = [0u8; 4096];
+    let mut comps = [0u32; MOST];
+    let mut d = [0u8; MOST];
     let mut tally = [0usize; 36];
     let cases = each_case(&list[..n], &mut comps, &mut d, &mut tally);
     say(b"cases: #\n", &[cases as usize]);
@@ -31,13 +61,6 @@ fn main() {
           differing: #\n",
         &tally[29..],
     );
-}
-
-// A shape in which each # stands for the next of the numbers.
-fn say(shape: &[u8], numbers: &[usize]) {
-    let mut d = io::buffer();
-    let n = text::fill(&mut d, 0, shape, numbers);
-    io::write_all(STDOUT_FILENO, box_number::part(&d, 0, n));
 }
 
 // The list has to fit in.
@@ -84,24 +107,24 @@ fn number(rest: &[u8], i: usize) -> u32
 fn profile_start(rest: &[u8]) -> usize
     ensures { λ r. ⌜ r ≤ 17179869240 ⌝ }
 {
-    number(rest, 0) as usize * 4 + 60
+    number(rest, COMPS) as usize * 4 + NUMBERS_BYTES
 }
 
 // Where the profile ends and the written bytes start.
 fn profile_end(rest: &[u8]) -> usize
     ensures { λ r. ⌜ r ≤ 21474836535 ⌝ }
 {
-    profile_start(rest) + number(rest, 7) as usize
+    profile_start(rest) + number(rest, PROFILE) as usize
 }
 
 fn bytes_end(rest: &[u8]) -> usize {
-    profile_end(rest) + number(rest, 14) as usize
+    profile_end(rest) + number(rest, WRITTEN) as usize
 }
 
-// The place in the tally of what request i comes to.
+// The count of the tally for request i.
 fn case(i: u32, rest: &[u8], comps: &mut [u32], d: &mut [u8]) -> usize {
     let mut answer = [0u64; 4];
-    take_numbers(box_number::part(rest, 60, rest.len()), comps);
+    take_numbers(box_number::part(rest, NUMBERS_BYTES, rest.len()), comps);
     fill(d);
     write_in_first(rest, comps, d, &mut answer);
     outcome(i, rest, d, &answer)
@@ -109,7 +132,7 @@ fn case(i: u32, rest: &[u8], comps: &mut [u32], d: &mut [u8]) -> usize {
 
 fn take_numbers(list: &[u8], comps: &mut [u32]) {
     let mut i = 0;
-    while i < 4096 {
+    while i < MOST {
         put(comps, i, box_number::read_u32(list, i * 4));
         i = i + 1;
     }
@@ -136,8 +159,8 @@ fn pattern(i: usize) -> u8 {
 
 // Lists that do not fit in give no answer.
 fn write_in_first(rest: &[u8], comps: &[u32], d: &mut [u8], answer: &mut [u64]) {
-    let listed = number(rest, 0) as usize;
-    let long = number(rest, 10) as usize;
+    let listed = number(rest, COMPS) as usize;
+    let long = number(rest, DESTINATION) as usize;
     if listed <= comps.len() {
         if long <= d.len() {
             write(rest, &comps[0..listed], &mut d[0..long], answer);
@@ -147,7 +170,8 @@ fn write_in_first(rest: &[u8], comps: &[u32], d: &mut [u8], answer: &mut [u64]) 
 
 fn write(rest: &[u8], comps: &[u32], d: &mut [u8], answer: &mut [u64]) {
     let profile = box_number::part(rest, profile_start(rest), profile_end(rest));
-    let codestream = number(rest, 8) as u64 * 4294967296 + number(rest, 9) as u64;
+    let codestream = number(rest, CODESTREAM_HIGH) as u64 * 4294967296
+        + number(rest, CODESTREAM_LOW) as u64;
     cuzhantir::cuzhantir_write(
         comps,
         number(rest, 1),
@@ -163,17 +187,11 @@ fn write(rest: &[u8], comps: &[u32], d: &mut [u8], answer: &mut [u64]) {
     );
 }
 
-fn count(tally: &mut [usize], k: usize) {
-    if k < tally.len() {
-        tally[k] = std::num::wrapping_add_usize(tally[k], 1);
-    }
-}
-
-// The same, once it is written: 35 where the answer or the destination is not that of the list, and the first difference is said.
+// The same, after writing: DIFFERING where the answer or the destination is not that of the list. Prints the first difference.
 fn outcome(i: u32, rest: &[u8], d: &[u8], answer: &[u64]) -> usize {
     let first = first_number(rest, answer);
-    if first < 4 {
-        let listed = number(rest, first + 11);
+    if first < ANSWER_LENGTH {
+        let listed = number(rest, first + ANSWER);
         say(
             b"case #, number #: #, and not #\n",
             &[
@@ -183,7 +201,7 @@ fn outcome(i: u32, rest: &[u8], d: &[u8], answer: &[u64]) -> usize {
                 listed as usize,
             ],
         );
-        return 35;
+        return DIFFERING;
     }
     let bytes = box_number::part(rest, profile_end(rest), bytes_end(rest));
     let place = first_byte(bytes, d);
@@ -197,9 +215,9 @@ fn outcome(i: u32, rest: &[u8], d: &[u8], answer: &[u64]) -> usize {
                 wanted(bytes, place) as usize,
             ],
         );
-        return 35;
+        return DIFFERING;
     }
-    at(answer, 1) as usize
+    at(answer, ANSWER_NUMBER) as usize
 }
 
 // The first of the four numbers that differs, 4 where all are the same.
@@ -207,8 +225,8 @@ fn first_number(rest: &[u8], answer: &[u64]) -> usize
     ensures { λ r. ⌜ r ≤ 4 ⌝ }
 {
     let mut i = 0;
-    while i < 4 {
-        if number(rest, i + 11) as u64 != at(answer, i) {
+    while i < ANSWER_LENGTH {
+        if number(rest, i + ANSWER) as u64 != at(answer, i) {
             return i;
         }
         i = i + 1;
@@ -235,9 +253,4 @@ fn wanted(bytes: &[u8], i: usize) -> u8 {
     } else {
         pattern(i)
     }
-}
-
-// Number i, 0 past the last.
-fn at(numbers: &[u64], i: usize) -> u64 {
-    if i < numbers.len() { numbers[i] } else { 0 }
 }

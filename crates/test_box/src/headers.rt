@@ -1,12 +1,12 @@
 // Box headers, in the file and inside jp2h.
 use crate::kinds;
-use crate::say::bytes;
 use crate::say::hex;
-use crate::say::say;
 use crate::say::text;
 use box_header::Jp2BoxHeader;
 use box_header::ReadHeader;
 use box_kind::Jp2BoxType;
+use test_lines::bytes;
+use test_lines::say;
 
 const MOST: u32 = 0xffffffff;
 

@@ -1,8 +1,8 @@
 // The kinds of box: from the number to the kind and back.
 use crate::say::hex;
-use crate::say::say;
 use crate::say::text;
 use box_kind::Jp2BoxType;
+use test_lines::say;
 
 // The 19 kinds that have a name, then numbers of none: 0x75756964 is the standard's UUID.
 const NUMBERS: [u32; 28] = [

@@ -1,13 +1,7 @@
 // A case, and what reading its file came to.
 use libc::STDOUT_FILENO;
 use read_file::FileAnswer;
-
-// A shape in which each # stands for the next of the numbers.
-fn say(shape: &[u8], numbers: &[usize]) {
-    let mut d = io::buffer();
-    let n = text::fill(&mut d, 0, shape, numbers);
-    io::write_all(STDOUT_FILENO, box_number::part(&d, 0, n));
-}
+use test_lines::say;
 
 pub fn came(case: &[u8], file: &[u8]) {
     io::write_all(STDOUT_FILENO, case);
@@ -35,6 +29,7 @@ fn answer(before: &[u8], a: FileAnswer) {
             &[number as usize, place as usize],
         ),
     }
+    ;
 }
 
 fn wide(n: u32) -> usize {

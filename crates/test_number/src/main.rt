@@ -1,9 +1,7 @@
 // Edge cases of numbers of 1 to 4 bytes and of parts of a slice, a line each: what was asked = what came.
-use say::bytes;
-use say::say;
-use say::text;
-
-mod say;
+use libc::STDOUT_FILENO;
+use test_lines::bytes;
+use test_lines::say;
 
 // The last place that a usize can name.
 const FAR: usize = 0xffff_ffff_ffff_ffff;
@@ -175,4 +173,8 @@ fn part(s: &[u8], start: usize, end: usize) {
     text(b" = ");
     bytes(box_number::part(s, start, end));
     text(b"\n");
+}
+
+fn text(s: &[u8]) {
+    io::write_all(STDOUT_FILENO, s);
 }

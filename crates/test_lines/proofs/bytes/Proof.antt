@@ -1,14 +1,14 @@
--- `test_number::say::bytes` is safe and ends: what is left of the slice falls.
+-- `test_lines::bytes` meets its contract.
 -- Assumes nothing.
-use Prim.Native.Nat.{_-_}
+use Prim.Native.Nat.{_-_, _≤_}
 use native.Mathlib.Omega.{arith}
-use borrow.Author.Needs.{needs}
 use lib.ListN.{length}
-use Rattle.test_number.proofs.say.bytes.Statement.{statement}
-use Rattle.test_number.proofs.say.bytes.Tie as tie
+use borrow.Author.Needs.{needs}
+use Rattle.test_lines.proofs.bytes.Statement.{statement}
+use Rattle.test_lines.proofs.bytes.Tie as tie
 
 abbrev Inv-loop : tie.InvT-loop
-Inv-loop s i₀ i = Unit {0}
+Inv-loop s i₀ i = i ≤ length s
 
 abbrev μ-loop : tie.MeasureT-loop
 μ-loop s i₀ i = length s - i
@@ -29,7 +29,7 @@ say-requires : tie.Need-say-requires Inv-loop μ-loop
 say-requires c κs = tt
 
 loop-holds : tie.Need-loop-holds Inv-loop μ-loop
-loop-holds c = tt
+loop-holds c = omega arith
 
 shared-slice-read-byte : tie.Need-shared-slice-read-byte Inv-loop μ-loop
 shared-slice-read-byte c = omega arith
@@ -44,10 +44,10 @@ loop-less : tie.Need-loop-less Inv-loop μ-loop
 loop-less c = omega arith
 
 loop-again : tie.Need-loop-again Inv-loop μ-loop
-loop-again c = tt
+loop-again c = omega arith
 
 returns : tie.Need-returns Inv-loop μ-loop
-returns c = tt
+returns c = omega arith
 
 pub bytes-spec : {M : Type 1} → statement M
 bytes-spec =
