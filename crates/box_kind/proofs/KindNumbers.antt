@@ -1,4 +1,4 @@
--- Kinds and numbers there and back, and the kinds that the last arm of a `match` stands for.
+-- Kinds and their numbers, both ways, and the kinds of the last arm of a `match`.
 -- Assumes nothing.
 use Prim.Native.Nat.{ℕ}
 use mathlib.Core.Path.{_≡_, refl, sym, ap, subst, _∙_}

@@ -1,4 +1,4 @@
--- One turn of the walk: what stands at c tells how its boxes run.
+-- One turn of the walk: what the file has at c decides how its boxes run.
 -- Assumes nothing.
 use Prim.Native.Nat.{ℕ, suc, _+_, _≤_, _<_}
 use native.Mathlib.Omega.{arith}
@@ -206,7 +206,7 @@ module _ (at : ℕ) (c : List ℕ) (k : Jp2) where
               ),
             )
 
-    -- what stands at c tells how the boxes of c run
+    -- what the file has at c decides how the boxes of c run
     abbrev pub Tells : Found → Type 0
     Tells Nothing = Runs (ended k)
     Tells (Codestream m) = (m ≤ length c) × Runs (stream (boxAt JP2C at (at + m)) k)

@@ -1,4 +1,4 @@
--- The loop over the boxes of a file: what is left to split and run comes to what the whole does.
+-- The loop over the boxes of a file: what is left to split and run has the result of the whole.
 -- Assumes nothing.
 use Prim.Native.Nat.{ℕ, zero, suc, _+_, _-_, _≤_, _<_}
 use native.Mathlib.Omega.{arith}
@@ -24,7 +24,7 @@ use Rattle.read_file.specs.File.{Walked, ended, turnedDown, stream, past
 use Rattle.read_file.specs.Private.Turn.{found, Heads, boxAt}
 use Rattle.read_file.proofs.Turns.{heads-long, found-tells}
 
--- c, at a place of the file, is what is left: run from the record k it comes to w
+-- c, at a place of the file, is what is left: run from the record k its result is w
 pub record Going (w : Walked) (at : ℕ) (c : List ℕ) (k : Jp2) : Type 0 where
   pub fuel : ℕ
   pub enough : length c ≤ fuel
@@ -48,7 +48,7 @@ module _ {w : Walked} {at : ℕ} {c : List ℕ} {k : Jp2} (g : Going w at c k) w
         go zero l = absurd (omega arith)
         go (suc n) l = h n
 
-    -- the walk comes to what the boxes of c run to
+    -- the result of the walk is that of the boxes of c
     runs-to : {v : Walked} → ((n : ℕ) → run (split (suc n) at c) k ≡ v) → v ≡ w
     runs-to {v} h = with-fuel (λ (n : ℕ). run (split n at c) k ≡ w → v ≡ w) (λ n s. sym (h n) ∙ s) (g .same)
 

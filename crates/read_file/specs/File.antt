@@ -43,7 +43,7 @@ other b k =
     ∣ fileTypeBit k =? 0 ⇒ refused 6 (b .place)
     ∣ otherwise (accepted (withUnknown k)))
 
--- a box of the file, by its kind. A box of jp2h that stands outside is read too once the header bit is set, and skipped before (difference 13).
+-- a box of the file, by its kind. A box of jp2h outside jp2h is read too once the header bit is set, and skipped before (difference 13).
 unfoldable pub outer : Box → Jp2 → Result
 outer b k =
     table

@@ -19,7 +19,7 @@ use read_record::Answer;
 use read_record::Jp2;
 use read_record::Outcome;
 
-// The bits of jp2_state: file type, header, codestream, and all 31 low bits, which tell of a box that was skipped. The signature's is the lowest.
+// The bits of jp2_state: file type, header, codestream, and all 31 low bits, which a box that is skipped sets. The signature's is the lowest.
 const FILE_TYPE: u32 = 2;
 
 const HEADER: u32 = 4;
@@ -44,9 +44,9 @@ pub struct Reading {
     pub jp2: Jp2,
 }
 
-// What stands at a place of the file: no box, the codestream with its header's length, a box that is shorter than its header, one that reaches past the end, or a whole one.
+// What a place of the file has: no box, the codestream with its header's length, a box that is shorter than its header, one that reaches past the end, or a whole one.
 // The last two have the header as it was read: a kind alone would be put together from its bytes at each box.
-pub enum Found {
+enum Found {
     Nothing,
     Codestream(u32),
     Short,
@@ -54,6 +54,7 @@ pub enum Found {
     Whole(Jp2BoxHeader),
 }
 
+// What the file has at the first byte of c.
 fn find_box(c: &[u8]) -> Found
     ensures { λ r. ⌜ r ≡ found (now (c .entry)) ⌝ }
 {
@@ -73,7 +74,7 @@ fn find_box(c: &[u8]) -> Found
     Found::Whole(h)
 }
 
-fn turned_down(number: u32, place: u32, j: Jp2) -> Reading
+fn refuse(number: u32, place: u32, j: Jp2) -> Reading
     ensures { λ r. ⌜ r ≡ reading j (turnedDown number place) ⌝ }
 {
     Reading {
@@ -82,7 +83,7 @@ fn turned_down(number: u32, place: u32, j: Jp2) -> Reading
     }
 }
 
-fn over(k: Jp2) -> Reading
+fn ended(k: Jp2) -> Reading
     ensures { λ r. ⌜ r ≡ reading k (ended k) ⌝ }
 {
     Reading {
@@ -108,13 +109,13 @@ fn with_stream(state: u32) -> u32
     state
 }
 
-// The codestream box, whose content starts at start; j is the record before the file.
+// Ends the reading at the codestream box, whose content starts at start; j is the record before the file.
 fn read_stream(at: u32, start: u32, k: Jp2, j: Jp2) -> Reading
     ensures { λ r. ⌜ r ≡ reading j (stream (boxAt JP2C at start) k) ⌝ }
 {
     let mut status = k.status;
     if status.state / HEADER % 2 == 0 {
-        return turned_down(2, at, j);
+        return refuse(2, at, j);
     }
     status.state = with_stream(status.state);
     let mut m = k;
@@ -136,7 +137,7 @@ fn skip(k: Jp2) -> Outcome
     Outcome::done(m)
 }
 
-// A box that is not read: it is skipped once signature and file type were read.
+// Skips a box that is not read, once signature and file type were read.
 fn read_other(ty: Jp2BoxType, at: u32, start: u32, k: Jp2) -> Outcome
     ensures { λ r. ⌜ r ≡ answer k (other (boxAt ty at start) k) ⌝ }
 {
@@ -170,7 +171,7 @@ fn is_early(ty: Jp2BoxType, state: u32) -> bool
     state / HEADER % 2 == 0
 }
 
-// jp2h, or a box of it that stands outside. Such a box is skipped before the header bit is set.
+// jp2h, or a box of it outside jp2h. Such a box is skipped before the header bit is set.
 fn read_header(ty: Jp2BoxType, c: &[u8], at: u32, start: u32, k: Jp2) -> Outcome
     ensures { λ r. ⌜ r ≡ answer k (header ty at start (now (c .entry)) k) ⌝ }
 {
@@ -181,7 +182,7 @@ fn read_header(ty: Jp2BoxType, c: &[u8], at: u32, start: u32, k: Jp2) -> Outcome
     read_jp2h::read_header_box(ty, c, at, start, k)
 }
 
-// The content of a box of the file, by the reader of its kind.
+// Reads the content of a box of the file by the reader of its kind. jp2h and the boxes that belong into it have one arm: read_jp2h says why.
 fn read_outer(ty: Jp2BoxType, c: &[u8], at: u32, start: u32, k: Jp2) -> Outcome
     requires { ⌜ start + length (now c) ≤ largest ⌝ }
     ensures { λ r. ⌜ r ≡ answer k (outer (box ty at start (now (c .entry))) k) ⌝ }
@@ -200,22 +201,22 @@ fn read_outer(ty: Jp2BoxType, c: &[u8], at: u32, start: u32, k: Jp2) -> Outcome
     }
 }
 
-// A box that reaches past the end; j is the record before the file.
+// Ends the reading at a box that reaches past the end; j is the record before the file.
 fn read_past(ty: Jp2BoxType, at: u32, k: Jp2, j: Jp2) -> Reading
     ensures { λ r. ⌜ r ≡ reading j (pastEnd (boxAt ty at 0) k) ⌝ }
 {
     if is_read(ty) {
-        return turned_down(4, at, j);
+        return refuse(4, at, j);
     }
     let outcome = read_other(ty, at, 0, k);
     let answer = outcome.answer;
     if let Answer::Refused(n, p) = answer {
-        return turned_down(n, p, j);
+        return refuse(n, p, j);
     }
-    over(outcome.jp2)
+    ended(outcome.jp2)
 }
 
-// A box that lies in the file, from c's first byte on, with the header that was found there.
+// Reads a box that lies in c, from its first byte on, with the header that was found there.
 fn read_whole(c: &[u8], at: u32, h: Jp2BoxHeader, k: Jp2) -> Outcome
     requires { ⌜ Heads at (now c) h ⌝ }
     ensures { λ r. ⌜ r ≡ answer k (outer (firstBox at (now (c .entry))) k) ⌝ }
@@ -232,7 +233,7 @@ pub fn opj_jp2_read_header_procedure(s: &[u8], j: Jp2) -> Reading
     ensures { λ r. ⌜ r ≡ reading j (walk (now (s .entry)) j) ⌝ }
 {
     if LARGEST < s.len() {
-        return turned_down(1, 0, j);
+        return refuse(1, 0, j);
     }
     let mut k = j;
     let mut rest = s;
@@ -241,13 +242,13 @@ pub fn opj_jp2_read_header_procedure(s: &[u8], j: Jp2) -> Reading
         let found = find_box(rest);
         match found {
             Found::Nothing => {
-                return over(k);
+                return ended(k);
             }
             Found::Codestream(n) => {
                 return read_stream(at, at + n, k, j);
             }
             Found::Short => {
-                return turned_down(3, at, j);
+                return refuse(3, at, j);
             }
             Found::Past(h) => {
                 let ty = h.ty;
@@ -257,7 +258,7 @@ pub fn opj_jp2_read_header_procedure(s: &[u8], j: Jp2) -> Reading
                 let outcome = read_whole(rest, at, h, k);
                 let answer = outcome.answer;
                 if let Answer::Refused(n, p) = answer {
-                    return turned_down(n, p, j);
+                    return refuse(n, p, j);
                 }
                 let size = h.next(0);
                 rest = &rest[size..];
@@ -266,7 +267,7 @@ pub fn opj_jp2_read_header_procedure(s: &[u8], j: Jp2) -> Reading
             }
         }
     }
-    over(k)
+    ended(k)
 }
 
 // A file, read from the record before any box.

@@ -40,7 +40,7 @@ pub record Going (kind : Jp2BoxType) (place : ℕ) (w : Result) (l lone : Bool) 
   pub room : at + length c ≤ largest
   pub left : Left lone kind place w l fuel at c lacks k
 
--- a box that was found lies in c, and what its reader answers tells of the whole
+-- a box that was found lies in c, and its reader's answer decides the whole
 pub record Here (kind : Jp2BoxType) (place : ℕ) (w : Result) (l : Bool) (at : ℕ) (c : List ℕ) (lacks : Bool) (k : Jp2) (b : Item) : Type 0 where
   pub head : b .header .«header_length» ≤ length c
   pub size : b .header .length ≤ length c

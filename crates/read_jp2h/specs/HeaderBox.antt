@@ -1,4 +1,4 @@
--- A box of the file that belongs to the header: jp2h, or a box of another kind that stands outside it (difference 13), which its own reader reads.
+-- A box of the file that belongs to the header: jp2h, or a box of another kind outside jp2h (difference 13), which its own reader reads.
 use Prim.Native.Nat.{ℕ, _+_}
 use mathlib.Core.List.{List}
 use lib.ListN.{length}

@@ -1,4 +1,4 @@
--- I.5.3, JP2 Header box: a superbox. Its boxes are read in the file's order. Differences 12 and 18: they may stand in any order, only ihdr has to be there, and a further jp2h is read too.
+-- I.5.3, JP2 Header box: a superbox. Its boxes are read in the file's order. Differences 12 and 18: they may come in any order, only ihdr has to be there, and a further jp2h is read too.
 use Prim.Native.Nat.{ℕ, _+_}
 use mathlib.Core.Bool.{Bool, true, not, _&&_}
 use mathlib.Core.List.{List}

@@ -22,7 +22,7 @@ use read_record::Jp2;
 use read_record::Outcome;
 use read_record::Status;
 
-// The bits of a state: file type, header, and all 31 low bits, which tell of a box that was skipped.
+// The bits of a state: file type, header, and all 31 low bits, which a box that is skipped sets.
 const FILE_TYPE: u32 = 2;
 
 const HEADER: u32 = 4;
@@ -32,7 +32,7 @@ const UNKNOWN: u32 = 2147483647;
 // The bit of a state above the 31 low ones.
 const HIGH: u32 = 2147483648;
 
-// The content of a box inside jp2h, by the reader of its kind. A box of another kind is skipped.
+// Reads the content of a box inside jp2h by the reader of its kind. A box of another kind is skipped.
 fn read_content(ty: Jp2BoxType, c: &[u8], place: u32, start: u32, j: Jp2) -> Outcome
     ensures { λ r. ⌜ r ≡ answer j (reader ty place start (now (c .entry)) j) ⌝ }
 {
@@ -54,13 +54,13 @@ fn read_content(ty: Jp2BoxType, c: &[u8], place: u32, start: u32, j: Jp2) -> Out
 }
 
 // A box to read: its place in the file, and its header. A box outside jp2h is read from its content alone, and has a header of no bytes here.
-pub struct Item {
+struct Item {
     pub place: u32,
     pub header: Jp2BoxHeader,
 }
 
 // What is read next: nothing where no bytes are left, a box, or the number of a refusal.
-pub enum Next {
+enum Next {
     Nothing,
     Fault(u32),
     Found(Item),
@@ -193,8 +193,8 @@ fn is_alone(ty: Jp2BoxType) -> bool
     true
 }
 
-// jp2h, or a box of another kind that stands outside it, which is read as a list of one. Both go through one loop, so that readers are chosen and called at one place.
-// There the record is changed where it lies. Beside a second such call it would be copied at each box, which costs more than reading a small box does.
+// Reads jp2h, or a box of another kind outside jp2h as a list of one. One loop serves both, so that the readers are chosen and called at one place.
+// There the record is changed in place. A second such call would copy it at each box, which takes longer than reading a small box (docs/DECISIONS.md, 69).
 pub fn read_header_box(ty: Jp2BoxType, c: &[u8], place: u32, start: u32, j: Jp2) -> Outcome
     ensures { λ r. ⌜ r ≡ answer j (headerBox ty place start (now (c .entry)) j) ⌝ }
 {
@@ -244,6 +244,7 @@ pub fn read_header_box(ty: Jp2BoxType, c: &[u8], place: u32, start: u32, j: Jp2)
     }
 }
 
+// Reads jp2h.
 pub fn opj_jp2_read_jp2h(c: &[u8], place: u32, start: u32, j: Jp2) -> Outcome
     ensures { λ r. ⌜ r ≡ answer j (jp2hAlone place start (now (c .entry)) j) ⌝ }
 {

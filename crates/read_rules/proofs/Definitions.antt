@@ -1,4 +1,4 @@
--- A file is read the same whatever stands in its definition list; and the places that reading answers.
+-- A file is read the same whatever bytes its definition list has; and the places that reading answers.
 -- Assumes nothing.
 use Prim.Native.Nat.{ℕ}
 use mathlib.Core.Path.{_≡_, refl, sym, ap, subst}

@@ -1,4 +1,4 @@
--- Palette, mappings and profile lie apart from the definition list: so they are the same whatever stands there.
+-- Palette, mappings and profile lie apart from the definition list: so they are the same whatever bytes it has.
 -- Assumes nothing.
 use Prim.Native.Nat.{ℕ, zero, suc, _+_, _*_, _≤_, _<_}
 use mathlib.Core.Path.{_≡_}

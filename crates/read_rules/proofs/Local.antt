@@ -1,4 +1,4 @@
--- What a reading does: it keeps the definition list, or sets it to one inside its bytes and then answers the same whatever stands there; and it keeps a property of the record.
+-- What a reading does: it keeps the definition list, or sets it to one inside its bytes and then answers the same whatever bytes it has; and it keeps a property of the record.
 -- Assumes nothing.
 use Prim.Native.Nat.{ℕ, _+_, _*_, _≤_, _<_}
 use mathlib.Core.Path.{_≡_, refl, sym, ap, subst, _∙_}
@@ -15,7 +15,7 @@ use Rattle.read_rules.proofs.Sames.{Headed}
 use Rattle.read_rules.proofs.Parts.{Whole, content, rest, length-content, length-rest, AlikeFrom, equal-before, equal-after, alike-drop, alike-headed, alike-part}
 use Rattle.read_rules.proofs.Changes.{Law}
 
--- R, a reading of bytes c that start at a place, answers the same whatever stands in the definition list n
+-- R, a reading of bytes c that start at a place, answers the same whatever bytes the definition list n has
 abbrev pub Blind : {X : Type 0} → (List ℕ → X) → ℕ → List ℕ → Span → Type 0
 Blind R start c n = (e : List ℕ) → AlikeFrom start (entries 6 n) c e → R e ≡ R c
 

@@ -19,11 +19,11 @@ pub record Whole (c : List ℕ) : Type 0 where
   pub least : headerLength c ≤ boxLength c
   pub within : boxLength c ≤ length c
 
--- its content, or the bytes that stand at its place in another list
+-- its content, or the bytes at its place in another list
 abbrev pub content : List ℕ → List ℕ → List ℕ
 content c e = part e (headerLength c) (boxLength c)
 
--- and what stands after it
+-- and the bytes after it
 abbrev pub rest : List ℕ → List ℕ → List ℕ
 rest c e = drop (boxLength c) e
 
@@ -71,7 +71,7 @@ module _ {at : ℕ} {r : Range} {c e : List ℕ} (a : AlikeFrom at r c e) where
         outside = λ i l h. let b : i < k = omega (arith, length-take k c) in rw (getD-take k e i 0 b, getD-take k c i 0 b) (a .outside i (omega (arith, length-take k c)) h);
       }
 
-  -- bytes that stand before the range
+  -- bytes before the range
   pub alike-first : (n : ℕ) → at + n ≤ r .place → n ≤ length c → Same c 0 e 0 n
   alike-first n h l = record { byte = λ i b. rw zero-add (a .outside i (omega arith) (λ x. omega arith)) }
 
@@ -82,7 +82,7 @@ pub alike-part : {at : ℕ} {r : Range} {c e : List ℕ} → AlikeFrom at r c e 
 unfolding part
 alike-part a s t = alike-take (alike-drop a s) (t - s)
 
--- c is what stands in f from a place on
+-- c is the bytes of f from a place on
 pub record Lies (f : List ℕ) (at : ℕ) (c : List ℕ) : Type 0 where
   pub within : at + length c ≤ length f
   pub same : Same f at c 0 (length c)

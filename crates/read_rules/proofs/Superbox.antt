@@ -31,7 +31,7 @@ then-then : (r : Result) (next : Jp2 → Result) → thenWalk r (λ m. thenWalk 
 then-then (accepted m) next = refl
 then-then (refused number place) next = refl
 
--- what the walk through c tells: the answer, and whether an ihdr is lacking
+-- the result of the walk through c: the answer, and whether an ihdr is lacking
 abbrev told : ℕ → ℕ → Jp2 → List ℕ → Result × Bool
 told n at k c = (readAll (split n at c) k, lacksIhdr (split n at c))
 
@@ -40,7 +40,7 @@ unfolding readAll lacksIhdr
 told-same n at c k m f z r e h p q =
     rw (split-next n at c e h f z, split-next n at c c (headed-self c) f z, p, r) (ap (λ (t : Result × Bool). (t .0, not (holds (kindOf (TBox c) is IHDR)) && t .1)) q)
 
--- jp2h's answer, from what the walk tells
+-- jp2h's answer, from the result of the walk
 abbrev finish : ℕ → Jp2 → Result × Bool → Result
 finish place j t =
     table

@@ -23,6 +23,6 @@ given (turnedDown number place) = refused number place
 abbrev pub definitions : Jp2 → Range
 definitions m = range (m .lists .cdef .place) (6 * m .lists .cdef .count)
 
--- a file that is read to a record answers the same, offset and record too, whatever stands in that record's definition list
+-- a file that is read to a record answers the same, offset and record too, whatever bytes that record's definition list has
 abbrev pub DefinitionsFree : Type 0
 DefinitionsFree = (f g : List ℕ) (m : Jp2) → given (read f) ≡ accepted m → Alike f g (definitions m) → read g ≡ read f

@@ -1,4 +1,4 @@
--- The lists that a record keeps in the file lie in it, and apart from each other: what stands in one says nothing of another.
+-- The lists that a record keeps in the file lie in it, and apart from each other: the bytes of one are not the bytes of another.
 use Prim.Native.Nat.{ℕ, _+_, _*_}
 use mathlib.Core.Path.{_≡_}
 use mathlib.Core.List.{List, [], _∷_}
@@ -12,7 +12,7 @@ use Rattle.read_file.specs.File.{read}
 use Rattle.read_rules.specs.Range.{Range, range, Inside, Pairwise}
 use Rattle.read_rules.specs.Alike.{given}
 
--- a list of entries of so many bytes each
+-- a list of entries, each of the given count of bytes
 abbrev pub entries : ℕ → Span → Range
 entries width l = range (l .place) (width * l .count)
 

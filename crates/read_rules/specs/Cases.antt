@@ -6,7 +6,8 @@ use mathlib.Core.List.{List, [], _∷_, _++_}
 use lib.Dec.{eqb}
 use Rattle.box_number.specs.Number.{number, part}
 use Rattle.box_number.specs.Table.{table}
-use Rattle.box_kind.specs.Kind.{kindOf}
+use Rattle.box_kind.specs.Kind.{kindOf, numberOf}
+use Rattle.box_kind.specs.declared.Jp2BoxType.the-variants.{IHDR}
 use Rattle.box_header.specs.Box.{headerLength, boxLength}
 use Rattle.read_record.specs.State.{withBit}
 use Rattle.read_signature.specs.Signature.{signature}
@@ -20,15 +21,15 @@ use Rattle.read_channels.specs.Cdef.{cdef}
 use Rattle.read_jp2h.specs.Split.{split}
 use Rattle.read_jp2h.specs.Jp2h.{readAll, lacksIhdr, jp2h}
 use Rattle.read_file.specs.File.{Walked, codestream, ended, turnedDown, outer, run, walk, read}
-use Rattle.read_rules.specs.Files.{two, four, box, extended, signatureBox, fileTypeBox, streamBox, unknownBox, ihdrBox, greyBox, pclrBox, picture}
+use Rattle.read_rules.specs.Files.{two, four, boxOf, extended, free, signatureBox, fileTypeBox, streamBox, unknownBox, ihdrBox, greyBox, pclrBox, picture}
 
--- what a file is to come to: the codestream at an offset, "ended", or a number at a place
+-- the expected result of a file: the codestream at an offset, "ended", or a number at a place
 pub data Expected : Type 0 where
   streamAt : ℕ → Expected
   over : Expected
   refusedAt : ℕ → ℕ → Expected
 
--- a table of files and what each is to come to
+-- a table of files and their expected results
 infixr 20 _gives_∣_
 pub data Cases : Type 0 where
   end : Cases
@@ -41,7 +42,7 @@ cases =
     -- grey, 2 by 3, 8 bits: 77 bytes plus 8, codestream at 85
     picture (ihdrBox 1 ++ greyBox) gives streamAt 85 ∣
     -- ihdr 13 bytes: 13
-    picture (box 0x69686472 (four 3 ++ four 2 ++ two 1 ++ 7 ∷ 7 ∷ 0 ∷ []) ++ greyBox) gives refusedAt 13 40 ∣
+    picture (boxOf IHDR (four 3 ++ four 2 ++ two 1 ++ 7 ∷ 7 ∷ 0 ∷ []) ++ greyBox) gives refusedAt 13 40 ∣
     -- count 16384 passes, 16385: 15
     picture (ihdrBox 16384 ++ greyBox) gives streamAt 85 ∣
     picture (ihdrBox 16385 ++ greyBox) gives refusedAt 15 40 ∣
@@ -56,10 +57,10 @@ cases =
     picture (ihdrBox 1 ++ pclrBox 1 0x25 4) gives streamAt 86 ∣
     picture (ihdrBox 1 ++ pclrBox 1 0x25 3) gives refusedAt 20 62 ∣
     -- child length 0: 10; extended 15: 11; 16: empty content
-    picture (four 0 ++ four 0x69686472) gives refusedAt 10 40 ∣
-    picture (extended 0x66726565 15) gives refusedAt 11 40 ∣
-    picture (extended 0x66726565 16 ++ ihdrBox 1) gives streamAt 86 ∣
-    picture (extended 0x69686472 16) gives refusedAt 13 40 ∣
+    picture (four 0 ++ four (numberOf IHDR)) gives refusedAt 10 40 ∣
+    picture (extended free 15) gives refusedAt 11 40 ∣
+    picture (extended free 16 ++ ihdrBox 1) gives streamAt 86 ∣
+    picture (extended (numberOf IHDR) 16) gives refusedAt 13 40 ∣
     -- signature, ftyp (20 bytes), empty unknown box, codestream: 48
     signatureBox ++ fileTypeBox ++ unknownBox ++ streamBox gives streamAt 48 ∣
     end

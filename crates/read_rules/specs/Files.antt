@@ -2,6 +2,9 @@
 use Prim.Native.Nat.{ℕ, zero, suc, _+_, _/_, _%_}
 use mathlib.Core.List.{List, [], _∷_, _++_}
 use lib.ListN.{length}
+use Rattle.box_kind.specs.Kind.{numberOf}
+use Rattle.box_kind.specs.declared.Jp2BoxType.{Jp2BoxType}
+use Rattle.box_kind.specs.declared.Jp2BoxType.the-variants.{JP, FTYP, JP2H, IHDR, COLR, PCLR, JP2C}
 
 abbrev pub two : ℕ → List ℕ
 two n = n / 256 ∷ n % 256 ∷ []
@@ -17,34 +20,45 @@ zeros (suc n) = 0 ∷ zeros n
 abbrev pub box : ℕ → List ℕ → List ℕ
 box type content = four (8 + length content) ++ four type ++ content
 
+-- the box of a kind
+abbrev pub boxOf : Jp2BoxType → List ℕ → List ℕ
+boxOf kind content = box (numberOf kind) content
+
 -- LBox 1, TBox, XLBox
 abbrev pub extended : ℕ → ℕ → List ℕ
 extended type n = four 1 ++ four type ++ four 0 ++ four n
 
 abbrev pub signatureBox : List ℕ
-signatureBox = box 0x6a502020 (four 0x0d0a870a)
+signatureBox = boxOf JP (four 0x0d0a870a)
+
+-- the brand 'jp2 '
+abbrev pub brand : ℕ
+brand = 0x6a703220
 
 abbrev pub fileTypeBox : List ℕ
-fileTypeBox = box 0x66747970 (four 0x6a703220 ++ four 0 ++ four 0x6a703220)
+fileTypeBox = boxOf FTYP (four brand ++ four 0 ++ four brand)
 
 abbrev pub streamBox : List ℕ
-streamBox = box 0x6a703263 []
+streamBox = boxOf JP2C []
 
--- 'free', a type that no reader knows
+-- 'free', a type that is none of the kinds
+abbrev pub free : ℕ
+free = 0x66726565
+
 abbrev pub unknownBox : List ℕ
-unknownBox = box 0x66726565 []
+unknownBox = box free []
 
 -- height 3, width 2, the count, 8 bits
 abbrev pub ihdrBox : ℕ → List ℕ
-ihdrBox count = box 0x69686472 (four 3 ++ four 2 ++ two count ++ 7 ∷ 7 ∷ 0 ∷ 0 ∷ [])
+ihdrBox count = boxOf IHDR (four 3 ++ four 2 ++ two count ++ 7 ∷ 7 ∷ 0 ∷ 0 ∷ [])
 
 abbrev pub greyBox : List ℕ
-greyBox = box 0x636f6c72 (1 ∷ 0 ∷ 0 ∷ four 17)
+greyBox = boxOf COLR (1 ∷ 0 ∷ 0 ∷ four 17)
 
--- one column of a width byte, entries of so many bytes each
+-- one column with a width byte, and the given count of bytes for its entries
 abbrev pub pclrBox : ℕ → ℕ → ℕ → List ℕ
-pclrBox entries width bytes = box 0x70636c72 (two entries ++ 1 ∷ width ∷ [] ++ zeros bytes)
+pclrBox entries width bytes = boxOf PCLR (two entries ++ 1 ∷ width ∷ [] ++ zeros bytes)
 
 -- signature, file type, jp2h of the given boxes, and the codestream
 abbrev pub picture : List ℕ → List ℕ
-picture header = signatureBox ++ fileTypeBox ++ box 0x6a703268 header ++ streamBox
+picture header = signatureBox ++ fileTypeBox ++ boxOf JP2H header ++ streamBox

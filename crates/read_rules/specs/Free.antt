@@ -1,4 +1,4 @@
--- Palette, mappings and profile are the same whatever stands in the definition list.
+-- Palette, mappings and profile are the same whatever bytes the definition list has.
 use Prim.Native.Nat.{ℕ, _+_, _<_}
 use mathlib.Core.Path.{_≡_}
 use mathlib.Core.List.{List}

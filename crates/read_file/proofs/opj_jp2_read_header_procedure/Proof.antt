@@ -18,12 +18,12 @@ Inv-loop s j k₀ rest₀ at₀ k rest at = Going (run (boxes 0 s) j) at rest k
 abbrev μ-loop : tie.MeasureT-loop
 μ-loop s j k₀ rest₀ at₀ k rest at = length rest
 
-turned-down-requires : tie.Need-turned-down-requires Inv-loop μ-loop
-turned-down-requires c κs = tt
+refuse-requires : tie.Need-refuse-requires Inv-loop μ-loop
+refuse-requires c κs = tt
 
 returns : tie.Need-returns Inv-loop μ-loop
 unfolding walk
-returns c = gives _ _ _ (c .turned-down .ensures) (row 0 _ (omega arith) refl)
+returns c = gives _ _ _ (c .refuse .ensures) (row 0 _ (omega arith) refl)
 
 loop-holds : tie.Need-loop-holds Inv-loop μ-loop
 loop-holds c = let a = c .before .before .args in going-start (a .s .now) (a .j) (omega arith)
@@ -34,11 +34,11 @@ find-box-requires c κs = tt
 enum-told : tie.Need-enum-told Inv-loop μ-loop
 enum-told c = search needs
 
-over-requires : tie.Need-over-requires Inv-loop μ-loop
-over-requires c κs = tt
+ended-requires : tie.Need-ended-requires Inv-loop μ-loop
+ended-requires c κs = tt
 
 returns-2 : tie.Need-returns-2 Inv-loop μ-loop
-returns-2 c = let a = c .before .before .before .before .before .before .before .before .args in gives-end (a .j) _ _ (c .over .ensures) (walked (a .s .now) (a .j) (omega arith) (going-none (c .before .before .before .before .before .loop .inv) (omega arith) (c .before .before .before .find-box .ensures) (c .before .enum-told .given .1)))
+returns-2 c = let a = c .before .before .before .before .before .before .before .before .args in gives-end (a .j) _ _ (c .ended .ensures) (walked (a .s .now) (a .j) (omega arith) (going-none (c .before .before .before .before .before .loop .inv) (omega arith) (c .before .before .before .find-box .ensures) (c .before .enum-told .given .1)))
 
 enum-known-found : tie.Need-enum-known-found Inv-loop μ-loop
 enum-known-found c = search needs
@@ -55,11 +55,11 @@ returns-3 c = let a = c .before .before .before .before .before .before .before 
 enum-told-2 : tie.Need-enum-told-2 Inv-loop μ-loop
 enum-told-2 c = search needs
 
-turned-down-requires-2 : tie.Need-turned-down-requires-2 Inv-loop μ-loop
-turned-down-requires-2 c κs = tt
+refuse-requires-2 : tie.Need-refuse-requires-2 Inv-loop μ-loop
+refuse-requires-2 c κs = tt
 
 returns-4 : tie.Need-returns-4 Inv-loop μ-loop
-returns-4 c = let a = c .before .before .before .before .before .before .before .before .args in gives _ _ _ (c .turned-down2 .ensures) (walked (a .s .now) (a .j) (omega arith) (going-short (c .before .before .before .before .before .loop .inv) (omega arith) (c .before .before .before .find-box .ensures) (c .before .enum-told2 .given .1)))
+returns-4 c = let a = c .before .before .before .before .before .before .before .before .args in gives _ _ _ (c .refuse2 .ensures) (walked (a .s .now) (a .j) (omega arith) (going-short (c .before .before .before .before .before .loop .inv) (omega arith) (c .before .before .before .find-box .ensures) (c .before .enum-told2 .given .1)))
 
 enum-known-found-2 : tie.Need-enum-known-found-2 Inv-loop μ-loop
 enum-known-found-2 c = search needs
@@ -79,11 +79,11 @@ read-whole-requires c κs = going-heads (c .before .before .before .before .befo
 enum-known-answer : tie.Need-enum-known-answer Inv-loop μ-loop
 enum-known-answer c = search needs
 
-turned-down-requires-3 : tie.Need-turned-down-requires-3 Inv-loop μ-loop
-turned-down-requires-3 c κs = tt
+refuse-requires-3 : tie.Need-refuse-requires-3 Inv-loop μ-loop
+refuse-requires-3 c κs = tt
 
 returns-6 : tie.Need-returns-6 Inv-loop μ-loop
-returns-6 c = let a = c .before .before .before .before .before .before .before .before .before .before .before .before .before .args in gives _ _ _ (c .turned-down3 .ensures) (walked (a .s .now) (a .j) (omega (arith, c .before .before .before .before .before .before .before .before .before .before .before .if1 .left)) (going-down (c .before .before .before .before .before .before .before .before .before .before .loop .inv) (omega arith) (c .before .before .before .before .before .before .before .before .find-box .ensures) (c .before .before .before .before .before .before .found3 .given .1) (c .before .before .before .before .read-whole .ensures) (c .before .before .answer .given .1)))
+returns-6 c = let a = c .before .before .before .before .before .before .before .before .before .before .before .before .before .args in gives _ _ _ (c .refuse3 .ensures) (walked (a .s .now) (a .j) (omega (arith, c .before .before .before .before .before .before .before .before .before .before .before .if1 .left)) (going-down (c .before .before .before .before .before .before .before .before .before .before .loop .inv) (omega arith) (c .before .before .before .before .before .before .before .before .find-box .ensures) (c .before .before .before .before .before .before .found3 .given .1) (c .before .before .before .before .read-whole .ensures) (c .before .before .answer .given .1)))
 
 enum-told-3 : tie.Need-enum-told-3 Inv-loop μ-loop
 enum-told-3 c = search needs
@@ -112,11 +112,11 @@ loop-less c = going-less (c .before .before .before .before .before .before .bef
 loop-again : tie.Need-loop-again Inv-loop μ-loop
 loop-again c = going-on (c .before .before .before .before .before .before .before .before .before .before .before .before .loop .inv) (omega arith) (c .before .before .before .before .before .before .before .before .before .before .find-box .ensures) (c .before .before .before .before .before .before .before .before .found3 .given .1) (c .before .before .before .before .before .before .read-whole .ensures) (c .before .before .before .before .enum-told3 .given .1) (c .before .before .before .next .ensures) (c .before .next2 .ensures)
 
-over-requires-2 : tie.Need-over-requires-2 Inv-loop μ-loop
-over-requires-2 c κs = tt
+ended-requires-2 : tie.Need-ended-requires-2 Inv-loop μ-loop
+ended-requires-2 c κs = tt
 
 returns-7 : tie.Need-returns-7 Inv-loop μ-loop
-returns-7 c = let a = c .before .before .before .before .before .args in gives-end (a .j) _ _ (c .over2 .ensures) (walked (a .s .now) (a .j) (omega arith) (going-end (c .before .before .loop .inv) (omega arith)))
+returns-7 c = let a = c .before .before .before .before .before .args in gives-end (a .j) _ _ (c .ended2 .ensures) (walked (a .s .now) (a .j) (omega arith) (going-end (c .before .before .loop .inv) (omega arith)))
 
 pub opj-jp2-read-header-procedure-spec : {M : Type 1} → statement M
 opj-jp2-read-header-procedure-spec =
@@ -124,19 +124,19 @@ opj-jp2-read-header-procedure-spec =
     (tie.spec
     Inv-loop
     μ-loop
-    turned-down-requires
+    refuse-requires
     returns
     loop-holds
     find-box-requires
     enum-told
-    over-requires
+    ended-requires
     returns-2
     enum-known-found
     add-read-stream
     read-stream-requires
     returns-3
     enum-told-2
-    turned-down-requires-2
+    refuse-requires-2
     returns-4
     enum-known-found-2
     read-past-requires
@@ -144,7 +144,7 @@ opj-jp2-read-header-procedure-spec =
     enum-known-found-3
     read-whole-requires
     enum-known-answer
-    turned-down-requires-3
+    refuse-requires-3
     returns-6
     enum-told-3
     next-requires
@@ -155,5 +155,5 @@ opj-jp2-read-header-procedure-spec =
     cast-at
     loop-less
     loop-again
-    over-requires-2
+    ended-requires-2
     returns-7)

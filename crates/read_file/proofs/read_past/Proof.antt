@@ -15,11 +15,11 @@ use Rattle.read_file.proofs.read_past.Tie as tie
 is-read-requires : tie.Need-is-read-requires
 is-read-requires c κs = tt
 
-turned-down-requires : tie.Need-turned-down-requires
-turned-down-requires c κs = tt
+refuse-requires : tie.Need-refuse-requires
+refuse-requires c κs = tt
 
 returns : tie.Need-returns
-returns c = let r = said true (isRead (c .before .before .before .args .ty)) (sym (c .before .before .is-read .ensures) ∙ c .before .if1 .taken) in gives _ _ _ (c .turned-down .ensures) (row 0 _ r refl)
+returns c = let r = said true (isRead (c .before .before .before .args .ty)) (sym (c .before .before .is-read .ensures) ∙ c .before .if1 .taken) in gives _ _ _ (c .refuse .ensures) (row 0 _ r refl)
 
 read-other-requires : tie.Need-read-other-requires
 read-other-requires c κs = tt
@@ -27,32 +27,32 @@ read-other-requires c κs = tt
 enum-known-answer : tie.Need-enum-known-answer
 enum-known-answer c = search needs
 
-turned-down-requires-2 : tie.Need-turned-down-requires-2
-turned-down-requires-2 c κs = tt
+refuse-requires-2 : tie.Need-refuse-requires-2
+refuse-requires-2 c κs = tt
 
 returns-2 : tie.Need-returns-2
-returns-2 c = let a = c .before .before .before .before .before .before .before .args in let r = said false (isRead (a .ty)) (sym (c .before .before .before .before .before .before .is-read .ensures) ∙ c .before .before .before .before .before .if1 .left) in gives _ _ _ (c .turned-down2 .ensures) (row 1 _ (r, tt) (sym (ap (λ (x : Result). thenWalk x ended) (answer-refused (a .k) (other (boxAt (a .ty) (a .at) 0) (a .k)) (c .before .before .before .before .read-other .ensures) (c .before .before .answer .given .1)))))
+returns-2 c = let a = c .before .before .before .before .before .before .before .args in let r = said false (isRead (a .ty)) (sym (c .before .before .before .before .before .before .is-read .ensures) ∙ c .before .before .before .before .before .if1 .left) in gives _ _ _ (c .refuse2 .ensures) (row 1 _ (r, tt) (sym (ap (λ (x : Result). thenWalk x ended) (answer-refused (a .k) (other (boxAt (a .ty) (a .at) 0) (a .k)) (c .before .before .before .before .read-other .ensures) (c .before .before .answer .given .1)))))
 
 enum-told : tie.Need-enum-told
 enum-told c = search needs
 
-over-requires : tie.Need-over-requires
-over-requires c κs = tt
+ended-requires : tie.Need-ended-requires
+ended-requires c κs = tt
 
 returns-3 : tie.Need-returns-3
-returns-3 c = let a = c .before .before .before .before .before .before .args in let r = said false (isRead (a .ty)) (sym (c .before .before .before .before .before .is-read .ensures) ∙ c .before .before .before .before .if1 .left) in gives-end (a .j) _ _ (c .over .ensures) (row 1 _ (r, tt) (sym (ap (λ (x : Result). thenWalk x ended) (answer-done (a .k) (other (boxAt (a .ty) (a .at) 0) (a .k)) (c .before .before .before .read-other .ensures) (c .before .enum-told .given .1)))))
+returns-3 c = let a = c .before .before .before .before .before .before .args in let r = said false (isRead (a .ty)) (sym (c .before .before .before .before .before .is-read .ensures) ∙ c .before .before .before .before .if1 .left) in gives-end (a .j) _ _ (c .ended .ensures) (row 1 _ (r, tt) (sym (ap (λ (x : Result). thenWalk x ended) (answer-done (a .k) (other (boxAt (a .ty) (a .at) 0) (a .k)) (c .before .before .before .read-other .ensures) (c .before .enum-told .given .1)))))
 
 pub read-past-spec : {M : Type 1} → statement M
 read-past-spec =
     tie.close
     (tie.spec
     is-read-requires
-    turned-down-requires
+    refuse-requires
     returns
     read-other-requires
     enum-known-answer
-    turned-down-requires-2
+    refuse-requires-2
     returns-2
     enum-told
-    over-requires
+    ended-requires
     returns-3)

@@ -10,11 +10,11 @@ use Rattle.read_file.proofs.Turns.{gives}
 use Rattle.read_file.proofs.read_stream.Statement.{statement}
 use Rattle.read_file.proofs.read_stream.Tie as tie
 
-turned-down-requires : tie.Need-turned-down-requires
-turned-down-requires c κs = tt
+refuse-requires : tie.Need-refuse-requires
+refuse-requires c κs = tt
 
 returns : tie.Need-returns
-returns c = gives _ _ _ (c .turned-down .ensures) (row 0 _ (omega arith) refl)
+returns c = gives _ _ _ (c .refuse .ensures) (row 0 _ (omega arith) refl)
 
 with-stream-requires : tie.Need-with-stream-requires
 with-stream-requires c κs = tt
@@ -24,4 +24,4 @@ unfolding reading
 returns-2 c = let a = c .before .before .before .before .args in gives (a .j) (codestream (a .start) (withState (withBit 8 (a .k .status .state)) (a .k))) _ (cc) (row 1 _ (omega arith) refl)
 
 pub read-stream-spec : {M : Type 1} → statement M
-read-stream-spec = tie.close (tie.spec turned-down-requires returns with-stream-requires returns-2)
+read-stream-spec = tie.close (tie.spec refuse-requires returns with-stream-requires returns-2)

@@ -1,4 +1,4 @@
--- What stands at a place of a file, and the answer of a box of the header, for the walk's own functions.
+-- What a place of a file has, and the answer of a box of the header, for the walk's own functions.
 use Prim.Native.Nat.{ℕ, _+_, _≤_}
 use mathlib.Core.Path.{_≡_}
 use mathlib.Core.List.{List, []}
@@ -17,7 +17,7 @@ use Rattle.read_jp2h.specs.HeaderBox.{headerBox}
 use Rattle.read_file.specs.declared.Found.{Found}
 use Rattle.read_file.specs.declared.Found.the-variants.{Nothing, Codestream, Short, Past, Whole}
 
--- what stands at the first byte of c
+-- what the file has at the first byte of c
 unfoldable pub found : List ℕ → Found
 found c =
     table
@@ -49,6 +49,6 @@ isRead kind = isFileHeader kind or isImageHeader kind
 abbrev pub isEarly : Jp2BoxType → ℕ → Test
 isEarly kind state = tag kind ≠? tag JP2H and bit 4 state =? 0
 
--- jp2h, or a box of it that stands outside
+-- jp2h, or a box of it outside jp2h
 unfoldable pub header : Jp2BoxType → ℕ → ℕ → List ℕ → Jp2 → Result
 header kind place start c k = table (isEarly kind (k .status .state) ⇒ accepted (withUnknown k) ∣ otherwise (headerBox kind place start c k))
