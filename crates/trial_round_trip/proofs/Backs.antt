@@ -1,4 +1,4 @@
--- What was written and is read back from the destination is what the round trip speaks of.
+-- What is read back from the destination, by the round trip.
 -- Assumes nothing.
 use Prim.Native.Nat.{ℕ, _+_, _-_, _≤_}
 use native.Mathlib.Omega.{arith}
@@ -54,6 +54,6 @@ module _ (r : Request) (d : List ℕ) where
   pub comes-back : {w : Written} {e : List ℕ} {b : Reading} → bytesOf w ≤ 4294967295 → w ≡ answered (write r) → e ≡ destination d (write r) → b ≡ readingOf w e → ComesBack r w e b
   comes-back most a p q = comes (write r) refl most a p q
 
--- the promise is not an empty one: of bytes that were written it tells what comes back
+-- the promise says what is read back of bytes that were written
 pub speaks : (r : Request) (n : ℕ) (d : List ℕ) (b : Reading) → ComesBack r (Bytes n) d b → (b .answer ≡ Codestream n) × ReadBack r (take n d) (b .jp2)
 speaks r n d b back = back n refl

@@ -12,7 +12,8 @@ use Rattle.box_number.specs.Table.{_=?_, _≠?_, otherwise, _⇒_∣_}
 use Rattle.box_number.proofs.Rows.{Says, row, each}
 use Rattle.box_kind.specs.declared.Jp2BoxType.the-variants.{BPCC, CDEF, COLR}
 use Rattle.write_rules.specs.declared.Fields.{Fields}
-use Rattle.write_rules.specs.Setup.{varies, mostComponents}
+use Rattle.read_record.specs.Component.{mostComponents}
+use Rattle.write_rules.specs.Setup.{varies}
 use Rattle.write_rules.specs.Box.{box}
 use Rattle.write_rules.specs.Bpcc.{bpccContent, bpcc}
 use Rattle.write_rules.specs.Colr.{specification, colrContent, colr}

@@ -13,7 +13,8 @@ use Rattle.write_rules.specs.declared.Fields.{Fields}
 use Rattle.write_rules.specs.declared.Encoder.{Encoder}
 use Rattle.write_rules.specs.declared.Encoder.the-variants.{Ready, Refused}
 use Rattle.write_rules.specs.Request.{Request, asked}
-use Rattle.write_rules.specs.Setup.{N, mostComponents, fieldsOf, ill, setUp}
+use Rattle.read_record.specs.Component.{mostComponents}
+use Rattle.write_rules.specs.Setup.{N, fieldsOf, ill, setUp}
 use Rattle.write_rules.specs.Writing.{declined, writeFields, afterSetUp, write}
 use Rattle.write_boxes.specs.Private.Sound.{Sound}
 

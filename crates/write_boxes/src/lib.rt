@@ -8,7 +8,8 @@ ghost use Rattle.box_number.specs.Number.{bytes, placed};
 ghost use Rattle.box_number.specs.Table.{_≠?_, _and_, holds};
 ghost use Rattle.box_number.proofs.Rows.{Says};
 ghost use Rattle.write_rules.specs.Request.{asked};
-ghost use Rattle.write_rules.specs.Setup.{BPCi, definition, mostComponents, ill};
+ghost use Rattle.read_record.specs.Component.{mostComponents};
+ghost use Rattle.write_rules.specs.Setup.{BPCi, definition, ill};
 ghost use Rattle.write_rules.specs.Box.{boxHeader};
 ghost use Rattle.write_rules.specs.Signature.{signature};
 ghost use Rattle.write_rules.specs.FileType.{fileType};
@@ -23,18 +24,43 @@ ghost use Rattle.write_boxes.specs.Private.Lengths.{bpccLength, colrLeng
 ghost use Rattle.write_boxes.specs.Private.Sound.{Sound};
 use box_header::Jp2BoxHeader;
 use box_kind::Jp2BoxType;
+use read_record::ALPHA;
+use read_record::PREC;
+use read_record::SGND;
 use write_rules::Encoder;
 use write_rules::Fields;
 
-// The content of the signature box, and the brand 'jp2 '.
-const MAGIC: u32 = 0x0d0a_870a;
+// The content of the signature box; the brand 'jp2 ', and the version of the file type.
+const SIGNATURE: u32 = 0x0d0a_870a;
 
 const BRAND: u32 = 0x6a70_3220;
+
+const VERSION: u32 = 0;
 
 // The value of bpc where a bpcc follows.
 const VARIES: u32 = 255;
 
-// Type and association of a channel of which nothing is said.
+// ihdr: C, UnkC and IPR are the same in every file.
+const JPEG_2000: u32 = 7;
+
+const SPACE_KNOWN: u32 = 0;
+
+const NO_RIGHTS: u32 = 0;
+
+// colr: METH of an enumerated colour space; PREC and APPROX are the same in every file.
+const ENUMERATED: u32 = 1;
+
+const PRECEDENCE: u32 = 0;
+
+const APPROXIMATION: u32 = 0;
+
+// cdef: Typ of a colour and of an opacity, Asoc of the whole picture; Typ and Asoc of a channel of which nothing is said.
+const COLOUR: u32 = 0;
+
+const OPACITY: u32 = 1;
+
+const WHOLE_PICTURE: u32 = 0;
+
 const UNSPECIFIED: u32 = 65535;
 
 // The longest profile and the longest codestream.
@@ -42,7 +68,7 @@ const MOST_PROFILE: usize = 16777215;
 
 const MOST_CODESTREAM: u64 = 4261412863;
 
-// How many bytes were written, which is where the codestream goes; or document 01's number, with the index or the needed length.
+// The count of bytes written, which is where the codestream goes; or document 01's number, with the index or the needed length.
 pub enum Written {
     Bytes(u32),
     Refused(u32, u64),
@@ -87,7 +113,7 @@ fn opj_jp2_write_jp(d: &mut [u8], at: usize) -> usize
     ensures { λ r. ⌜ (r ≡ at + 12) × (now (d .exit) ≡ placed (now (d .entry)) at signature) ⌝ }
 {
     let a = put_header(d, at, Jp2BoxType::JP, 4);
-    put(d, a, 4, MAGIC)
+    put(d, a, 4, SIGNATURE)
 }
 
 fn opj_jp2_write_ftyp(d: &mut [u8], at: usize) -> usize
@@ -96,7 +122,7 @@ fn opj_jp2_write_ftyp(d: &mut [u8], at: usize) -> usize
 {
     let a = put_header(d, at, Jp2BoxType::FTYP, 12);
     let b = put(d, a, 4, BRAND);
-    let c = put(d, b, 4, 0);
+    let c = put(d, b, 4, VERSION);
     put(d, c, 4, BRAND)
 }
 
@@ -109,9 +135,9 @@ fn opj_jp2_write_ihdr(d: &mut [u8], at: usize, s: Fields) -> usize
     let a2 = put(d, a1, 4, s.w);
     let a3 = put(d, a2, 2, s.numcomps);
     let a4 = put(d, a3, 1, s.bpc);
-    let a5 = put(d, a4, 1, 7);
-    let a6 = put(d, a5, 1, 0);
-    put(d, a6, 1, 0)
+    let a5 = put(d, a4, 1, JPEG_2000);
+    let a6 = put(d, a5, 1, SPACE_KNOWN);
+    put(d, a6, 1, NO_RIGHTS)
 }
 
 // Bits less 1 of component c, and its sign as the top bit.
@@ -119,7 +145,7 @@ fn component_bits(comps: &[u32], c: u32) -> u32
     requires { ⌜ Says false (ill (now comps) c) ⌝ }
     ensures { λ r. ⌜ r ≡ BPCi (now (comps .entry)) c ⌝ }
 {
-    read_record::component(comps, c, 6) - 1 + 128 * read_record::component(comps, c, 8)
+    read_record::component(comps, c, PREC) - 1 + 128 * read_record::component(comps, c, SGND)
 }
 
 // A byte for each of the n components.
@@ -153,18 +179,18 @@ fn put_specification(d: &mut [u8], at: usize, s: Fields, profile: &[u8]) -> usiz
     requires { ⌜ at + length (specification s (now profile)) ≤ length (now d) ⌝ }
     ensures { λ r. ⌜ (r ≡ at + length (specification s (now (profile .entry)))) × (now (d .exit) ≡ placed (now (d .entry)) at (specification s (now (profile .entry)))) ⌝ }
 {
-    if s.meth == 1 {
+    if s.meth == ENUMERATED {
         return put(d, at, 4, s.enumcs);
     }
     put_bytes(d, at, profile)
 }
 
-// How long the box is.
+// The length of colr.
 fn colr_length(s: Fields, profile: u32) -> u32
     requires { ⌜ profile ≤ mostProfile ⌝ }
     ensures { λ r. ⌜ r ≡ colrLength s profile ⌝ }
 {
-    if s.meth == 1 {
+    if s.meth == ENUMERATED {
         return 15;
     }
     11 + profile
@@ -181,8 +207,8 @@ fn opj_jp2_write_colr(d: &mut [u8], at: usize, s: Fields, profile: &[u8]) -> usi
         colr_length(s, profile.len() as u32) - 8,
     );
     let a1 = put(d, a0, 1, s.meth);
-    let a2 = put(d, a1, 1, 0);
-    let a3 = put(d, a2, 1, 0);
+    let a2 = put(d, a1, 1, PRECEDENCE);
+    let a3 = put(d, a2, 1, APPROXIMATION);
     put_specification(d, a3, s, profile)
 }
 
@@ -202,10 +228,10 @@ fn define(d: &mut [u8], at: usize, comps: &[u32], colours: u32, c: u32) -> usize
     ensures { λ r. ⌜ (r ≡ at + 6) × (now (d .exit) ≡ placed (now (d .entry)) at (definitionBytes (definition (now (comps .entry)) colours c))) ⌝ }
 {
     if c < colours {
-        return put_definition(d, at, c, 0, c + 1);
+        return put_definition(d, at, c, COLOUR, c + 1);
     }
-    if read_record::component(comps, c, 12) != 0 {
-        return put_definition(d, at, c, 1, 0);
+    if read_record::component(comps, c, ALPHA) != 0 {
+        return put_definition(d, at, c, OPACITY, WHOLE_PICTURE);
     }
     put_definition(d, at, c, UNSPECIFIED, UNSPECIFIED)
 }
@@ -258,7 +284,7 @@ fn cdef_length(s: Fields) -> u32
     10 + 6 * s.definitions
 }
 
-// How long the content of jp2h is.
+// The length of the content of jp2h.
 fn jp2h_length(s: Fields, profile: u32) -> u32
     requires { ⌜ (s .numcomps ≤ mostComponents) × (s .definitions ≤ mostComponents) × (profile ≤ mostProfile) ⌝ }
     ensures { λ r. ⌜ (r ≡ jp2hLength s profile) × (r ≤ 16975000) ⌝ }
@@ -326,7 +352,7 @@ fn write_fields(d: &mut [u8], comps: &[u32], s: Fields, profile: &[u8], codestre
     Written::Bytes(needed)
 }
 
-// Writes all boxes before a codestream of the given length, and the header of its box, from the start of d on. The components are 13 numbers each, as many as count says; x0 to y1 are
+// Writes all boxes before a codestream of the given length, and the header of its box, from the start of d on. comps holds count components of 13 numbers each; x0 to y1 are
 // the corners of the picture's area, space is the crate's number of a colour space, and an empty profile is none.
 pub fn write_boxes(
     comps: &[u32],

@@ -31,7 +31,7 @@ use Rattle.write_rules.specs.Stream.{streamHeader}
 use Rattle.write_rules.specs.Writing.{front}
 use Rattle.write_rules.specs.RoundTrip.{depthCount, depthByte, RoundTrip, FileFits}
 use Rattle.write_rules.proofs.Numbers.{number-last}
-use Rattle.write_rules.proofs.Bounds.{Fit, accepted-fits, byte-most, byte-tells, one-depth, n-most, meth-cases, definition-most}
+use Rattle.write_rules.proofs.Bounds.{Fit, accepted-fits, byte-most, byte-precision, one-depth, n-most, meth-cases, definition-most}
 use Rattle.write_rules.proofs.Lengths.{length-signature, length-type, length-ihdr, length-bpccContent, length-series, length-definition}
 use Rattle.write_rules.proofs.Children.{spec-two}
 use Rattle.write_rules.proofs.Header.{colrAt, cdefAt, bitsAt, iccAt, defsAt, bpcc-none, bpcc-some, icc-none, icc-some, cdef-none, cdef-some, children-most}
@@ -53,7 +53,7 @@ module _ (r : Request) (fit : Fit r) (stream : List ℕ) where
   abbrev f : List ℕ
   f = front (r .components) (fieldsOf r) (r .profile) (r .codestream) ++ stream
 
-  -- where the boxes of jp2h stand
+  -- the places of the boxes of jp2h
   file-lies : Lies f 0 (signature ++ (fileType ++ (jp2h (r .components) (fieldsOf r) (r .profile) ++ (streamHeader (r .codestream) ++ stream))))
   file-lies = rw (front-is r stream) (lies-whole (whole r stream))
 
@@ -106,8 +106,8 @@ module _ (r : Request) (fit : Fit r) (stream : List ℕ) where
   unfolding depthByte
   precise-back c l =
       each (λ (b : ℕ). b % 128 + 1 ≡ precision (r .components) c) _ (
-        (λ h. rw (depth-back c (rw (bpcc-some r h .1) l)) (byte-tells r fit c l)),
-        λ h. let d = one-depth r fit h in rw (d .0) (byte-tells r fit 0 (fit .some) ∙ sym (d .1 c l)),
+        (λ h. rw (depth-back c (rw (bpcc-some r h .1) l)) (byte-precision r fit c l)),
+        λ h. let d = one-depth r fit h in rw (d .0) (byte-precision r fit 0 (fit .some) ∙ sym (d .1 c l)),
       )
 
   -- the profile

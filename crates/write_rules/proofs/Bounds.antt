@@ -13,7 +13,8 @@ use Rattle.read_channels.specs.Definitions.{Def}
 use Rattle.box_number.proofs.Indices.{decide, lowest-none}
 use Rattle.write_rules.specs.declared.Encoder.the-variants.{Ready}
 use Rattle.write_rules.specs.Request.{Request, precision, sign}
-use Rattle.write_rules.specs.Setup.{wrapping, BPCi, BPC, METH, EnumCS, N, definition, varies, other, mostComponents, mostBits, fieldsOf, ill, setUp}
+use Rattle.read_record.specs.Component.{mostComponents}
+use Rattle.write_rules.specs.Setup.{wrapping, BPCi, BPC, METH, EnumCS, N, definition, varies, other, mostBits, fieldsOf, ill, setUp}
 use Rattle.write_rules.specs.Writing.{Writing, written, declined, front, mostProfile, mostCodestream, writeFields, afterSetUp, write}
 
 -- what no row of the table refuses
@@ -87,10 +88,10 @@ module _ (r : Request) (fit : Fit r) where
   unfolding BPC
   bpc-most = each (λ n. n < 256) _ ((λ _. omega arith), λ _. byte-most 0 (fit .some))
 
-  -- a byte tells its component's precision
-  pub byte-tells : (c : ℕ) → c < r .count → BPCi (r .components) c % 128 + 1 ≡ precision (r .components) c
+  -- the precision of a component from its byte
+  pub byte-precision : (c : ℕ) → c < r .count → BPCi (r .components) c % 128 + 1 ≡ precision (r .components) c
   unfolding BPCi
-  byte-tells c l = omega (arith, fit .bits c l)
+  byte-precision c l = omega (arith, fit .bits c l)
 
   -- BPC is 255, or the first component's byte where all have its precision
   pub one-depth : (fieldsOf r .bpc ≡ varies → ⊥) → (fieldsOf r .bpc ≡ BPCi (r .components) 0) × ((c : ℕ) → c < r .count → precision (r .components) c ≡ precision (r .components) 0)

@@ -33,7 +33,7 @@ use Rattle.write_rules.proofs.Steps.{Reads, no-child, no-more, child-bo
 use Rattle.write_rules.proofs.Bounds.{Fit, n-most, meth-cases}
 use Rattle.write_rules.proofs.Children.{kind-ihdr, sized, painted, spec-one, spec-two, ihdr-read, bpcc-read, colr-one, colr-two, cdef-read}
 
--- where bpcc, colr and cdef stand
+-- the places of colr and cdef
 abbrev pub colrAt : Request → ℕ
 colrAt r = 62 + length (bpcc (r .components) (fieldsOf r))
 

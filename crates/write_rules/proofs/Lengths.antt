@@ -13,7 +13,8 @@ use Rattle.read_channels.specs.Definitions.{Def}
 use Rattle.write_rules.specs.declared.Fields.{Fields}
 use Rattle.write_rules.specs.Box.{boxHeader, box, series}
 use Rattle.write_rules.specs.Setup.{BPCi, definition}
-use Rattle.write_rules.specs.Signature.{magic, signature}
+use Rattle.read_signature.specs.Signature.{signatureContent}
+use Rattle.write_rules.specs.Signature.{signature}
 use Rattle.write_rules.specs.FileType.{fileTypeContent, fileType}
 use Rattle.write_rules.specs.Ihdr.{ihdrContent, ihdr}
 use Rattle.write_rules.specs.Bpcc.{bpccContent}
@@ -34,7 +35,7 @@ length-series piece w h zero = omega arith
 length-series piece w h (suc n) = let e = length-series piece w h n in let f = h n in simp (length-append, e, f) (omega arith)
 
 pub length-signature : length signature ≡ 12
-length-signature = length-box JP (bytes 4 magic) ∙ rw length-bytes refl
+length-signature = length-box JP (bytes 4 signatureContent) ∙ rw length-bytes refl
 
 pub length-type : length fileType ≡ 20
 length-type = length-box FTYP fileTypeContent ∙ simp (length-append, length-bytes)

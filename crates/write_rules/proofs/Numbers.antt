@@ -10,7 +10,7 @@ use lib.Seq.{drop-at, getD-append-add}
 use Rattle.box_number.specs.Number.{number, bytes, placed, written}
 use Rattle.box_number.proofs.Bytes.{length-bytes, written-fits, number-read-back}
 
--- a number that stands first, and fits
+-- a number in the first bytes, which hold it
 pub number-here : (w v : ℕ) (c : List ℕ) → w ≤ 4 → v < 256 ^ w → number (bytes w v ++ c) 0 w ≡ v
 unfolding placed
 number-here w v c l h =

@@ -1,4 +1,4 @@
--- What stands in a file from a place on: pieces of it, the content of a box, numbers in a series.
+-- The bytes of a file from a place on: pieces of it, the content of a box, numbers in a series.
 -- Assumes nothing.
 use Prim.Native.Nat.{ℕ, zero, suc, _+_, _-_, _*_, _≤_, _<_}
 use mathlib.Core.Path.{_≡_, refl, sym, ap, _∙_}
@@ -52,7 +52,7 @@ unfolding number
 number-before a b at zero h = refl
 number-before a b at (suc n) h = rw (number-before a b at n (omega arith), List·getD-append a b 0 (at + n) (omega arith))
 
--- a number of piece i stands i pieces on
+-- a number of piece i comes after i pieces
 module _ (piece : ℕ → List ℕ) (w : ℕ) (wide : (i : ℕ) → length (piece i) ≡ w) where
   pub number-series : (n i j k : ℕ) → i < n → j + k ≤ w → number (series piece n) (w * i + j) k ≡ number (piece i) j k
   unfolding series

@@ -1,4 +1,4 @@
--- A box that was written is the first box of the bytes at whose front it stands.
+-- A written box at the front of some bytes is the first box of their split.
 -- Assumes nothing.
 use Prim.Native.Nat.{ℕ, suc, _+_, _-_, _≤_, _<_}
 use mathlib.Core.Path.{_≡_, refl, sym, _∙_}

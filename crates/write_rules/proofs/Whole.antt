@@ -22,7 +22,8 @@ use Rattle.read_jp2h.specs.Jp2h.{withHeaderBit}
 use Rattle.read_file.specs.File.{codestream, outer, run, walk, read}
 use Rattle.write_rules.specs.Request.{Request}
 use Rattle.write_rules.specs.Setup.{fieldsOf}
-use Rattle.write_rules.specs.Signature.{magic, signature}
+use Rattle.read_signature.specs.Signature.{signatureContent}
+use Rattle.write_rules.specs.Signature.{signature}
 use Rattle.write_rules.specs.FileType.{fileTypeContent, fileType}
 use Rattle.write_rules.specs.Jp2h.{jp2h, jp2hContent}
 use Rattle.write_rules.specs.Stream.{streamHeader}
@@ -46,7 +47,7 @@ unfolding kindOf table
 kind-jp2h = refl
 
 -- the two boxes that are the same in every file
-signature-read : outer (boxAt JP 0 (bytes 4 magic)) blank ≡ accepted (withState 1 blank)
+signature-read : outer (boxAt JP 0 (bytes 4 signatureContent)) blank ≡ accepted (withState 1 blank)
 unfolding kindOf outer reading.signature table number bytes
 signature-read = refl
 
@@ -90,7 +91,7 @@ module _ (r : Request) (fit : Fit r) where
   run-whole stream n h =
       let s = streamHeader (r .codestream) ++ stream in
       let most = children-most r fit in
-      onward (file-box JP (bytes 4 magic) (fileType ++ (jp2h (r .components) (fieldsOf r) (r .profile) ++ s)) (rw length-bytes (omega arith)) (omega arith) n 0 blank (withState 1 blank) (λ e. omega (arith, ap tag kind-jp)) h signature-read) 12 (omega (arith, length-signature))
+      onward (file-box JP (bytes 4 signatureContent) (fileType ++ (jp2h (r .components) (fieldsOf r) (r .profile) ++ s)) (rw length-bytes (omega arith)) (omega arith) n 0 blank (withState 1 blank) (λ e. omega (arith, ap tag kind-jp)) h signature-read) 12 (omega (arith, length-signature))
       λ n h.
       onward (file-box FTYP fileTypeContent (jp2h (r .components) (fieldsOf r) (r .profile) ++ s) (simp (length-append, length-bytes) (omega arith)) (omega arith) n 12 (withState 1 blank) afterType (λ e. omega (arith, ap tag kind-ftyp)) h type-read) 32 (omega (arith, length-type))
       λ n h.

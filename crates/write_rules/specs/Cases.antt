@@ -14,11 +14,11 @@ use Rattle.write_rules.specs.Colr.{specification}
 use Rattle.write_rules.specs.Cdef.{cdef}
 use Rattle.write_rules.specs.Writing.{Writing, written, declined, front, writeFields, write}
 
--- a component of so many bits, with a sign and a mark
+-- a component, by its bits, its sign and its mark
 abbrev pub comp : ℕ → ℕ → ℕ → List ℕ
 comp precision sign mark = 1 ∷ 1 ∷ 2 ∷ 3 ∷ 0 ∷ 0 ∷ precision ∷ precision ∷ sign ∷ 0 ∷ 0 ∷ 0 ∷ mark ∷ []
 
--- so many components of a colour space, 2 by 3, before a codestream of so many bytes, with so much room
+-- a picture of 2 by 3, by its components, their count, its colour space, the length of its codestream and the room for its boxes
 abbrev pub picture : List ℕ → ℕ → ℕ → ℕ → ℕ → Request
 picture components count space codestream room =
     record { components = components; count = count; x0 = 0; y0 = 0; x1 = 2; y1 = 3; space = space; profile = []; codestream = codestream; room = room }
@@ -61,7 +61,7 @@ start =
     0 ∷ 0 ∷ 0 ∷ 12 ∷ 0x6a ∷ 0x50 ∷ 0x20 ∷ 0x20 ∷ 0x0d ∷ 0x0a ∷ 0x87 ∷ 0x0a ∷
     0 ∷ 0 ∷ 0 ∷ 20 ∷ 0x66 ∷ 0x74 ∷ 0x79 ∷ 0x70 ∷ 0x6a ∷ 0x70 ∷ 0x32 ∷ 0x20 ∷ 0 ∷ 0 ∷ 0 ∷ 0 ∷ 0x6a ∷ 0x70 ∷ 0x32 ∷ 0x20 ∷ []
 
--- jp2h of so many bytes, with the ihdr of so many components of 8 bits
+-- jp2h of the given length, and the ihdr of components of 8 bits
 abbrev pub eight : ℕ → ℕ → List ℕ
 eight length count =
     0 ∷ 0 ∷ 0 ∷ length ∷ 0x6a ∷ 0x70 ∷ 0x32 ∷ 0x68 ∷
@@ -85,7 +85,7 @@ five =
     0 ∷ 3 ∷ 255 ∷ 255 ∷ 255 ∷ 255 ∷
     0 ∷ 4 ∷ 0 ∷ 1 ∷ 0 ∷ 0 ∷ []
 
--- so many components of 8 bits without a mark
+-- n components of 8 bits without a mark
 abbrev pub plain : ℕ → List ℕ
 plain zero = []
 plain (suc n) = comp 8 0 0 ++ plain n

@@ -2,6 +2,7 @@
 use Prim.Native.Nat.{ℕ, _+_, _*_}
 use mathlib.Core.List.{List}
 use lib.ListN.{getD}
+use Rattle.read_record.specs.Component.{prec, sgnd, alpha, numbersEach}
 
 -- count components of 13 numbers each, in one list; the corners of the picture's area; the crate's number of a colour space; an ICC profile, empty for none; the codestream's length
 -- without its box's header; the length of the destination
@@ -21,18 +22,18 @@ abbrev pub asked : List ℕ → ℕ → ℕ → ℕ → ℕ → ℕ → ℕ → 
 asked comps count x0 y0 x1 y1 space profile codestream room =
     record { components = comps; count = count; x0 = x0; y0 = y0; x1 = x1; y1 = y1; space = space; profile = profile; codestream = codestream; room = room }
 
--- number k of component c, in the order of the crate's opj_image_comp: dx, dy, w, h, x0, y0, prec, bpp, sgnd, resno_decoded, factor, data, alpha
+-- number k of component c, in the order of the crate's opj_image_comp
 abbrev pub component : List ℕ → ℕ → ℕ → ℕ
-component comps c k = getD comps (13 * c + k) 0
+component comps c k = getD comps (numbersEach * c + k) 0
 
--- prec: the bits of a sample
+-- the bits of a sample
 abbrev pub precision : List ℕ → ℕ → ℕ
-precision comps c = component comps c 6
+precision comps c = component comps c prec
 
--- sgnd: 1 where samples have a sign
+-- 1 where samples have a sign
 abbrev pub sign : List ℕ → ℕ → ℕ
-sign comps c = component comps c 8
+sign comps c = component comps c sgnd
 
--- alpha: not 0 for an opacity channel
+-- not 0 for an opacity channel
 abbrev pub mark : List ℕ → ℕ → ℕ
-mark comps c = component comps c 12
+mark comps c = component comps c alpha

@@ -3,6 +3,8 @@ use Prim.Native.Nat.{ℕ, zero, suc, _+_, _-_, _*_, _%_}
 use mathlib.Core.List.{List}
 use lib.ListN.{length}
 use Rattle.box_number.specs.Table.{Test, _=?_, _≠?_, _<?_, _or_, otherwise, _⇒_∣_, table}
+use Rattle.read_record.specs.Component.{mostComponents, numbersEach}
+use Rattle.read_colour.specs.Colr.{enumerated, profiled}
 use Rattle.read_channels.specs.Definitions.{Def, def}
 use Rattle.box_number.specs.Lowest.{lowest, some}
 use Rattle.write_rules.specs.declared.Fields.{Fields}
@@ -33,7 +35,7 @@ varies = 255
 abbrev pub other : List ℕ → ℕ → Test
 other comps c = precision comps c ≠? precision comps 0
 
--- I.5.3.1: what all components have, or 255. Difference 23: signs that differ are not looked at.
+-- I.5.3.1: what all components have, or 255. Difference 23: signs that differ are not compared.
 unfoldable pub BPC : List ℕ → ℕ → ℕ
 BPC comps count = table (some (other comps) count ⇒ varies ∣ otherwise (BPCi comps 0))
 
@@ -48,9 +50,9 @@ UnkC = 0
 abbrev pub IPR : ℕ
 IPR = 0
 
--- I.5.3.3: 2 where there is a profile, 1 for an enumerated colour space
+-- I.5.3.3: a profile (2), or an enumerated colour space (1)
 unfoldable pub METH : List ℕ → ℕ
-METH profile = table (length profile =? 0 ⇒ 1 ∣ otherwise 2)
+METH profile = table (length profile =? 0 ⇒ enumerated ∣ otherwise profiled)
 
 -- both are 0 in every file
 abbrev pub PREC : ℕ
@@ -59,19 +61,29 @@ PREC = 0
 abbrev pub APPROX : ℕ
 APPROX = 0
 
--- sRGB, greyscale, sYCC, whatever the count (difference 29); 0 with a profile, and for any other colour space (difference 24)
+-- EnumCS of sRGB, greyscale and sYCC
+abbrev pub sRGB : ℕ
+sRGB = 16
+
+abbrev pub greyscale : ℕ
+greyscale = 17
+
+abbrev pub sYCC : ℕ
+sYCC = 18
+
+-- by the crate's number of the colour space, whatever the count of components (difference 29); 0 with a profile, and for any other colour space (difference 24)
 unfoldable pub EnumCS : ℕ → ℕ → ℕ
 EnumCS meth space =
     table
-    (meth =? 2 ⇒ 0
-    ∣ space =? 1 ⇒ 16
-    ∣ space =? 2 ⇒ 17
-    ∣ space =? 3 ⇒ 18
+    (meth =? profiled ⇒ 0
+    ∣ space =? 1 ⇒ sRGB
+    ∣ space =? 2 ⇒ greyscale
+    ∣ space =? 3 ⇒ sYCC
     ∣ otherwise 0)
 
 -- the count of colours of an enumerated colour space, 0 where it is not known
 unfoldable pub colours : ℕ → ℕ
-colours enumcs = table (enumcs =? 16 or enumcs =? 18 ⇒ 3 ∣ enumcs =? 17 ⇒ 1 ∣ otherwise 0)
+colours enumcs = table (enumcs =? sRGB or enumcs =? sYCC ⇒ 3 ∣ enumcs =? greyscale ⇒ 1 ∣ otherwise 0)
 
 -- the count of marked components among the first n
 unfoldable pub marks : List ℕ → ℕ → ℕ
@@ -92,13 +104,26 @@ N comps count many =
     ∣ opacity comps count <? many ⇒ 0
     ∣ otherwise count)
 
+-- Typ of a colour and of an opacity; Typ and Asoc of a channel of which nothing is said; Asoc of the whole picture
+abbrev pub colourChannel : ℕ
+colourChannel = 0
+
+abbrev pub opacityChannel : ℕ
+opacityChannel = 1
+
+abbrev pub unspecified : ℕ
+unspecified = 65535
+
+abbrev pub wholePicture : ℕ
+wholePicture = 0
+
 -- definition c, of channel c: colour c + 1; the opacity of the whole picture, whatever the mark (difference 27); or a channel of which nothing is said
 unfoldable pub definition : List ℕ → ℕ → ℕ → Def
 definition comps many c =
     table
-    (c <? many ⇒ def c 0 (c + 1)
-    ∣ mark comps c ≠? 0 ⇒ def c 1 0
-    ∣ otherwise (def c 65535 65535))
+    (c <? many ⇒ def c colourChannel (c + 1)
+    ∣ mark comps c ≠? 0 ⇒ def c opacityChannel wholePicture
+    ∣ otherwise (def c unspecified unspecified))
 
 -- the fields of a request
 abbrev pub fieldsOf : Request → Fields
@@ -117,10 +142,7 @@ fieldsOf r =
       definitions = N (r .components) (r .count) many;
     }
 
--- a JP2 file has at most 16384 components, of at most 38 bits
-abbrev pub mostComponents : ℕ
-mostComponents = 16384
-
+-- a sample has at most 38 bits
 abbrev pub mostBits : ℕ
 mostBits = 38
 
@@ -134,6 +156,6 @@ setUp r =
     let wrong = lowest (ill (r .components)) (r .count) in
     table
     (r .count =? 0 or mostComponents <? r .count ⇒ Refused 31 0
-    ∣ length (r .components) <? 13 * r .count ⇒ Refused 29 0
+    ∣ length (r .components) <? numbersEach * r .count ⇒ Refused 29 0
     ∣ wrong <? r .count ⇒ Refused 32 wrong
     ∣ otherwise (Ready (fieldsOf r)))

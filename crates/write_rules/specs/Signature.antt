@@ -3,11 +3,8 @@ use Prim.Native.Nat.{ℕ}
 use mathlib.Core.List.{List}
 use Rattle.box_number.specs.Number.{bytes}
 use Rattle.box_kind.specs.declared.Jp2BoxType.the-variants.{JP}
+use Rattle.read_signature.specs.Signature.{signatureContent}
 use Rattle.write_rules.specs.Box.{box}
 
--- carriage return, line feed, 0x87 and line feed, the same in every file
-abbrev pub magic : ℕ
-magic = 0x0d0a870a
-
 abbrev pub signature : List ℕ
-signature = box JP (bytes 4 magic)
+signature = box JP (bytes 4 signatureContent)

@@ -1,4 +1,4 @@
--- A difference that wraps at 2^32: the number that comes to a where b is added.
+-- A difference that wraps at 2^32: the number whose sum with b is a.
 -- Assumes nothing.
 use Prim.Native.Nat.{ℕ, _+_, _%_, _≤_}
 use native.Mathlib.Omega.{arith}

@@ -6,6 +6,10 @@ ghost use Rattle.box_number.proofs.Rows.{Says};
 ghost use Rattle.box_number.specs.Lowest.{lowest};
 ghost use Rattle.write_rules.specs.Request.{asked, mark};
 ghost use Rattle.write_rules.specs.Setup.{other, BPC, METH, EnumCS, colours, marks, opacity, N, ill, setUp};
+use read_record::ALPHA;
+use read_record::COMPONENT_NUMBERS;
+use read_record::PREC;
+use read_record::SGND;
 use write_rules::Encoder;
 use write_rules::Fields;
 
@@ -17,18 +21,30 @@ const MOST_BITS: u32 = 38;
 // The value of bpc where the components have not the same number of bits.
 const VARIES: u32 = 255;
 
+// Methods: an enumerated colour space, a profile.
+const ENUMERATED: u32 = 1;
+
+const PROFILE: u32 = 2;
+
+// Enumerated colour spaces.
+const SRGB: u32 = 16;
+
+const GREYSCALE: u32 = 17;
+
+const SYCC: u32 = 18;
+
 // Whether component c has a precision that is not 1 to 38, or a sign that is not 0 or 1.
 fn is_ill(comps: &[u32], c: u32) -> bool
     ensures { λ r. ⌜ r ≡ holds (ill (now (comps .entry)) c) ⌝ }
 {
-    let precision = read_record::component(comps, c, 6);
+    let precision = read_record::component(comps, c, PREC);
     if precision == 0 {
         return true;
     }
     if MOST_BITS < precision {
         return true;
     }
-    1 < read_record::component(comps, c, 8)
+    1 < read_record::component(comps, c, SGND)
 }
 
 // The first such component; the count where there is none.
@@ -49,10 +65,10 @@ fn first_ill(comps: &[u32], count: u32) -> u32
 fn first_other(comps: &[u32], count: u32) -> u32
     ensures { λ r. ⌜ r ≡ lowest (other (now (comps .entry))) count ⌝ }
 {
-    let bits = read_record::component(comps, 0, 6);
+    let bits = read_record::component(comps, 0, PREC);
     let mut c: u32 = 0;
     while c < count {
-        if read_record::component(comps, c, 6) != bits {
+        if read_record::component(comps, c, PREC) != bits {
             return c;
         }
         c += 1;
@@ -60,7 +76,7 @@ fn first_other(comps: &[u32], count: u32) -> u32
     count
 }
 
-// What all components have, bits less 1 and the sign as top bit, or 255.
+// What all components have, bits less 1 and the sign as top bit, or VARIES.
 fn bits(comps: &[u32], count: u32) -> u32
     requires { ⌜ Says false (ill (now comps) 0) ⌝ }
     ensures { λ r. ⌜ r ≡ BPC (now (comps .entry)) count ⌝ }
@@ -68,47 +84,47 @@ fn bits(comps: &[u32], count: u32) -> u32
     if first_other(comps, count) < count {
         return VARIES;
     }
-    read_record::component(comps, 0, 6) - 1 + 128 * read_record::component(comps, 0, 8)
+    read_record::component(comps, 0, PREC) - 1 + 128 * read_record::component(comps, 0, SGND)
 }
 
-// 2 where there is a profile, 1 for an enumerated colour space.
+// The method: a profile, or an enumerated colour space.
 fn method(profile: &[u8]) -> u32
     ensures { λ r. ⌜ r ≡ METH (now (profile .entry)) ⌝ }
 {
     if profile.len() == 0 {
-        return 1;
+        return ENUMERATED;
     }
-    2
+    PROFILE
 }
 
 // The enumerated colour space: sRGB, greyscale or sYCC; 0 with a profile, and where it is another.
 fn enumerated(meth: u32, space: u32) -> u32
     ensures { λ r. ⌜ r ≡ EnumCS meth space ⌝ }
 {
-    if meth == 2 {
+    if meth == PROFILE {
         return 0;
     }
     match space {
-        1 => 16,
-        2 => 17,
-        3 => 18,
+        1 => SRGB,
+        2 => GREYSCALE,
+        3 => SYCC,
         _ => 0,
     }
 }
 
-// How many colours an enumerated colour space has.
+// The count of colours of an enumerated colour space.
 fn colour_count(enumcs: u32) -> u32
     ensures { λ r. ⌜ r ≡ colours enumcs ⌝ }
 {
     match enumcs {
-        16 => 3,
-        17 => 1,
-        18 => 3,
+        SRGB => 3,
+        GREYSCALE => 1,
+        SYCC => 3,
         _ => 0,
     }
 }
 
-// How many components are marked.
+// The count of marked components.
 fn mark_count(comps: &[u32], count: u32) -> u32
     ensures { λ r. ⌜ r ≡ marks (now (comps .entry)) count ⌝ }
 {
@@ -125,7 +141,7 @@ fn mark_count(comps: &[u32], count: u32) -> u32
 fn is_marked(comps: &[u32], c: u32) -> u32
     ensures { λ r. ⌜ r ≡ table (mark (now (comps .entry)) c ≠? 0 ⇒ 1 ∣ otherwise 0) ⌝ }
 {
-    if read_record::component(comps, c, 12) != 0 {
+    if read_record::component(comps, c, ALPHA) != 0 {
         return 1;
     }
     0
@@ -137,7 +153,7 @@ fn first_marked(comps: &[u32], count: u32) -> u32
 {
     let mut c: u32 = 0;
     while c < count {
-        if read_record::component(comps, c, 12) != 0 {
+        if read_record::component(comps, c, ALPHA) != 0 {
             return c;
         }
         c += 1;
@@ -145,7 +161,7 @@ fn first_marked(comps: &[u32], count: u32) -> u32
     count
 }
 
-// How many definitions cdef holds: all components are defined where exactly one is marked, and it comes after the colours.
+// The count of definitions in cdef: all components are defined where exactly one is marked, and it comes after the colours.
 fn definition_count(comps: &[u32], count: u32, colours: u32) -> u32
     ensures { λ r. ⌜ r ≡ N (now (comps .entry)) count colours ⌝ }
 {
@@ -180,7 +196,7 @@ pub fn opj_jp2_setup_encoder(
     if MOST_COMPONENTS < count {
         return Encoder::Refused(31, 0);
     }
-    if comps.len() < 13 * count as usize {
+    if comps.len() < COMPONENT_NUMBERS * count as usize {
         return Encoder::Refused(29, 0);
     }
     let wrong = first_ill(comps, count);

@@ -6,7 +6,8 @@ use lib.ListN.{length-append}
 use Rattle.box_kind.specs.declared.Jp2BoxType.the-variants.{JP}
 use Rattle.write_rules.proofs.Lengths.{length-header}
 use Rattle.write_rules.specs.Box.{boxHeader, box}
-use Rattle.write_rules.specs.Signature.{magic, signature}
+use Rattle.read_signature.specs.Signature.{signatureContent}
+use Rattle.write_rules.specs.Signature.{signature}
 use Rattle.box_number.specs.Number.{bytes}
 use Rattle.box_number.proofs.Bytes.{length-bytes}
 use Rattle.box_number.proofs.Pieces.{first, whole}
@@ -31,8 +32,8 @@ returns c =
     let d = b .args .d .now in
     let at = b .args .at in
     let p0 = first d at (boxHeader JP 4) 8 (length-header JP 4) (c .before .before .before .before .before .before .put-header .ensures) in
-    let p1 = field d at (boxHeader JP 4) 8 p0 4 magic (omega arith) (c .before .before .put .ensures) in
-    whole d at (boxHeader JP 4 ++ bytes 4 magic) (signature) 12 p1 (simp (length-append, length-bytes, append-assoc))
+    let p1 = field d at (boxHeader JP 4) 8 p0 4 signatureContent (omega arith) (c .before .before .put .ensures) in
+    whole d at (boxHeader JP 4 ++ bytes 4 signatureContent) (signature) 12 p1 (simp (length-append, length-bytes, append-assoc))
 
 pub opj-jp2-write-jp-spec : {M : Type 1} → statement M
 opj-jp2-write-jp-spec = tie.close (tie.spec put-header-requires put-requires same-length returns)

@@ -1,6 +1,7 @@
 -- For private functions only: the lengths of the boxes.
 use Prim.Native.Nat.{ℕ, _+_, _*_}
 use Rattle.box_number.specs.Table.{_=?_, _≠?_, otherwise, _⇒_∣_, table}
+use Rattle.read_colour.specs.Colr.{enumerated}
 use Rattle.write_rules.specs.declared.Fields.{Fields}
 use Rattle.write_rules.specs.Setup.{varies}
 
@@ -9,7 +10,7 @@ bpccLength s = table (s .bpc ≠? varies ⇒ 0 ∣ otherwise (8 + s .numcomps))
 
 -- with the length of the profile
 unfoldable pub colrLength : Fields → ℕ → ℕ
-colrLength s profile = table (s .meth =? 1 ⇒ 15 ∣ otherwise (11 + profile))
+colrLength s profile = table (s .meth =? enumerated ⇒ 15 ∣ otherwise (11 + profile))
 
 unfoldable pub cdefLength : Fields → ℕ
 cdefLength s = table (s .definitions =? 0 ⇒ 0 ∣ otherwise (10 + 6 * s .definitions))

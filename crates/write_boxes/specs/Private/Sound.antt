@@ -3,8 +3,9 @@ use Prim.Native.Nat.{ℕ, _≤_, _<_}
 use mathlib.Core.Bool.{false}
 use mathlib.Core.List.{List}
 use Rattle.box_number.proofs.Rows.{Says}
+use Rattle.read_record.specs.Component.{mostComponents}
 use Rattle.write_rules.specs.declared.Fields.{Fields}
-use Rattle.write_rules.specs.Setup.{mostComponents, ill}
+use Rattle.write_rules.specs.Setup.{ill}
 
 -- 31 and 32
 pub record Sound (comps : List ℕ) (s : Fields) : Type 0 where
