@@ -44,7 +44,7 @@ pub fn comma(json: bool, i: usize) {
 // The four letters of a brand.
 pub fn code(json: bool, c: &[u8]) {
     say::text(json, b" '|\"");
-    say::quote(json, box_number::part(c, 0, 4));
+    say::quoted(json, box_number::part(c, 0, 4));
     say::text(json, b"'|\"");
 }
 

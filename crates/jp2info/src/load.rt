@@ -1,4 +1,5 @@
 // A file by its name, into the room that is lent. Where that fails, standard error has a line with the name and the reason.
+use crate::quote;
 use libc::STDERR_FILENO;
 
 // How many bytes of the room are the file, or that there is none.
@@ -57,5 +58,5 @@ pub fn complain(name: &[u8], reason: &[u8]) {
 // The name, of 4096 bytes at most, has room in the list even where each byte takes four.
 fn head(d: &mut [u8], name: &[u8]) -> usize {
     let at = text::text(d, 0, b"jp2info: ");
-    text::quote(d, at, false, name)
+    quote::quote(d, at, false, name)
 }

@@ -6,9 +6,11 @@ ghost use lib.ListN.{length};
 mod items;
 mod lists;
 mod load;
+mod quote;
 mod record;
 mod say;
 mod usage;
+mod utf8;
 
 use load::Loaded;
 

@@ -21,7 +21,7 @@ use read_record::Span;
 
 pub fn reading(json: bool, name: &[u8], file: &[u8], r: Reading) {
     text(json, b"|{\"file\":\"");
-    say::quote(json, name);
+    say::quoted(json, name);
     outcome(json, file, r);
     say::end(json);
 }

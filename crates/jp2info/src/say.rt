@@ -1,4 +1,5 @@
 // Pieces of output, each written at once. A piece is one text with two forms: what people are told, a bar, and what JSON has.
+use crate::quote;
 use libc::STDOUT_FILENO;
 
 pub fn text(json: bool, piece: &[u8]) {
@@ -53,9 +54,9 @@ pub fn note(json: bool, n: usize, lines: &[u8]) {
 }
 
 // A text from outside: a file's name, of 4096 bytes at most, or a brand. It has room even where each byte takes six.
-pub fn quote(json: bool, s: &[u8]) {
+pub fn quoted(json: bool, s: &[u8]) {
     let mut d = io::large_buffer();
-    let n = text::quote(&mut d, 0, json, s);
+    let n = quote::quote(&mut d, 0, json, s);
     io::write_all(STDOUT_FILENO, box_number::part(&d, 0, n));
 }
 

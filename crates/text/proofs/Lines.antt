@@ -11,7 +11,7 @@ use lib.Seq.{drop-cons, take-suc, take-all}
 use Rattle.box_number.specs.Number.{part}
 use Rattle.box_number.proofs.Rows.{row, each}
 use Rattle.text.specs.Text.{line}
-use Rattle.text.specs.Parts.{marks}
+use Rattle.text.specs.Private.Parts.{marks}
 
 marks-same : (b c : ℕ) → b ≡ c → marks b c ≡ 1
 unfolding marks

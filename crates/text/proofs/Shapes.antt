@@ -15,7 +15,7 @@ use Rattle.box_number.proofs.Rows.{row, each, either}
 use Rattle.box_number.proofs.Numbers.{least-low, rest-is}
 use Rattle.read_palette.proofs.Entries.{entry-most}
 use Rattle.text.specs.Text.{decimal, filled, behind, joined}
-use Rattle.text.specs.Parts.{letter, marks, gap}
+use Rattle.text.specs.Private.Parts.{letter, marks, gap}
 use Rattle.text.specs.Row.{values}
 
 -- a text byte by byte

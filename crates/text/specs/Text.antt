@@ -21,11 +21,15 @@ digits (suc fuel) n = table (n <? 10 ⇒ [] ∣ otherwise (digits fuel (n / 10))
 unfoldable pub decimal : ℕ → List ℕ
 decimal n = digits (suc n) n
 
+-- #, the byte of a shape that stands for a number
+abbrev pub mark : ℕ
+mark = 35
+
 -- a shape in which each # stands for the next of some numbers; where none is left, it stands for itself
 unfoldable pub filled : List ℕ → List ℕ → List ℕ
 filled [] numbers = []
 filled (b ∷ shape) [] = b ∷ filled shape []
-filled (b ∷ shape) (n ∷ numbers) = table (b =? 35 ⇒ decimal n ++ filled shape numbers ∣ otherwise (b ∷ filled shape (n ∷ numbers)))
+filled (b ∷ shape) (n ∷ numbers) = table (b =? mark ⇒ decimal n ++ filled shape numbers ∣ otherwise (b ∷ filled shape (n ∷ numbers)))
 
 -- numbers, a text before each
 unfoldable pub behind : List ℕ → List ℕ → List ℕ

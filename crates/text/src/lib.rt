@@ -1,14 +1,12 @@
-// Text that is put together in a list that is lent, d. A function is given the place where the text goes, and answers the place after it.
+// Text that is put together in a lent list d. A function takes the place where the text goes, and answers the place after it.
 // What has no room in d is left out, so that nothing here can fail.
-ghost use Prim.Native.Nat.{_+_, _/_, _%_, _<_};
 ghost use mathlib.Core.Path.{_≡_};
 ghost use mathlib.Core.List.{[], _∷_, _++_};
 ghost use lib.ListN.{length, drop};
 ghost use Rattle.box_number.specs.Number.{least};
 ghost use Rattle.text.specs.Text.{put, after, decimal, filled, joined, line};
 ghost use Rattle.text.specs.Row.{values};
-ghost use Rattle.text.specs.Parts.{letter, marks, gap};
-ghost use Rattle.text.specs.Quote.{digit, escape, shown, together, front, quoted};
+ghost use Rattle.text.specs.Private.Parts.{letter, marks, gap};
 
 fn byte(d: &mut [u8], at: usize, b: u8) -> usize
     ensures { λ r. ⌜ (r ≡ after (now (d .entry)) at (b ∷ [])) × (now (d .exit) ≡ put (now (d .entry)) at (b ∷ [])) ⌝ }
@@ -41,6 +39,9 @@ fn number(d: &mut [u8], at: usize, n: usize) -> usize
     text(d, at, &digits[..k])
 }
 
+// The byte of a shape that stands for a number.
+const MARK: u8 = b'#';
+
 // A shape in which each # stands for the next of the numbers; where none is left, it stands for itself.
 pub fn fill(d: &mut [u8], at: usize, shape: &[u8], numbers: &[usize]) -> usize
     ensures { λ r. ⌜ (r ≡ after (now (d .entry)) at (filled (now (shape .entry)) (now (numbers .entry)))) × (now (d .exit) ≡ put (now (d .entry)) at (filled (now (shape .entry)) (now (numbers .entry)))) ⌝ }
@@ -50,7 +51,7 @@ pub fn fill(d: &mut [u8], at: usize, shape: &[u8], numbers: &[usize]) -> usize
     let mut i = 0;
     while i < shape.len() {
         k = letter(d, k, shape[i], numbers, next);
-        next = next + is(shape[i], b'#');
+        next = next + is(shape[i], MARK);
         i += 1;
     }
     k
@@ -62,7 +63,7 @@ fn letter(d: &mut [u8], at: usize, b: u8, numbers: &[usize], next: usize) -> usi
     if numbers.len() <= next {
         return byte(d, at, b);
     }
-    if b == b'#' {
+    if b == MARK {
         return number(d, at, numbers[next]);
     }
     byte(d, at, b)
@@ -160,92 +161,4 @@ fn first_line(lines: &[u8], end: u8) -> &[u8]
         i += 1;
     }
     lines
-}
-
-// Texts that come from outside, so that none of their bytes does anything to a terminal or breaks a line of JSON.
-
-mod utf8;
-
-pub use utf8::character;
-
-// Characters of 2 or more bytes and printing ASCII come as they are, any other byte as \x1b for people and as \u001b in JSON.
-// A backslash, in JSON also a quotation mark, stands after a backslash.
-pub fn quote(d: &mut [u8], at: usize, json: bool, s: &[u8]) -> usize
-    ensures { λ r. ⌜ (r ≡ after (now (d .entry)) at (quoted json (now (s .entry)))) × (now (d .exit) ≡ put (now (d .entry)) at (quoted json (now (s .entry)))) ⌝ }
-{
-    let mut k = at;
-    let mut rest = s;
-    while 0 < rest.len() {
-        let n = together(rest);
-        k = front(d, k, json, n, rest);
-        rest = &rest[n..];
-    }
-    k
-}
-
-// How many bytes at the front go together.
-fn together(s: &[u8]) -> usize
-    ensures { λ r. ⌜ r ≡ together (now (s .entry)) ⌝ }
-{
-    let n = character(s);
-    if 1 < n {
-        return n;
-    }
-    1
-}
-
-fn front(d: &mut [u8], at: usize, json: bool, n: usize, s: &[u8]) -> usize
-    ensures { λ r. ⌜ (r ≡ after (now (d .entry)) at (front json n (now (s .entry)))) × (now (d .exit) ≡ put (now (d .entry)) at (front json n (now (s .entry)))) ⌝ }
-{
-    if 1 < n {
-        return text(d, at, box_number::part(s, 0, n));
-    }
-    shown(d, at, json, box_number::read_u8(s, 0))
-}
-
-fn shown(d: &mut [u8], at: usize, json: bool, b: u8) -> usize
-    ensures { λ r. ⌜ (r ≡ after (now (d .entry)) at (shown json b)) × (now (d .exit) ≡ put (now (d .entry)) at (shown json b)) ⌝ }
-{
-    if b < 0x20 {
-        return by_number(d, at, json, b);
-    }
-    if 0x7e < b {
-        return by_number(d, at, json, b);
-    }
-    if b == b'\\' {
-        return text(d, at, &[b'\\', b]);
-    }
-    if b != b'"' {
-        return byte(d, at, b);
-    }
-    if json {
-        return text(d, at, &[b'\\', b]);
-    }
-    byte(d, at, b)
-}
-
-fn by_number(d: &mut [u8], at: usize, json: bool, b: u8) -> usize
-    ensures { λ r. ⌜ (r ≡ after (now (d .entry)) at (escape json ++ (digit (b / 16) ∷ digit (b % 16) ∷ []))) × (now (d .exit) ≡ put (now (d .entry)) at (escape json ++ (digit (b / 16) ∷ digit (b % 16) ∷ []))) ⌝ }
-{
-    let k = escape(d, at, json);
-    text(d, k, &[digit(b / 16), digit(b % 16)])
-}
-
-fn escape(d: &mut [u8], at: usize, json: bool) -> usize
-    ensures { λ r. ⌜ (r ≡ after (now (d .entry)) at (escape json)) × (now (d .exit) ≡ put (now (d .entry)) at (escape json)) ⌝ }
-{
-    if json {
-        return text(d, at, b"\\u00");
-    }
-    text(d, at, b"\\x")
-}
-
-fn digit(n: u8) -> u8
-    requires { ⌜ n < 16 ⌝ }
-    ensures { λ r. ⌜ r ≡ digit n ⌝ }
-{
-    if n < 10 {
-        return 48 + n;
-    }
-    87 + n
 }

@@ -3,7 +3,7 @@
 use native.Mathlib.Omega.{arith}
 use mathlib.Core.Path.{refl}
 use Rattle.box_number.proofs.Rows.{row}
-use Rattle.text.specs.Parts.{marks}
+use Rattle.text.specs.Private.Parts.{marks}
 use Rattle.text.proofs.is.Statement.{statement}
 use Rattle.text.proofs.is.Tie as tie
 

@@ -4,7 +4,7 @@ use borrow.Author.Needs.{needs}
 use mathlib.Core.Path.{ap, sym}
 use mathlib.Core.List.{_++_}
 use Rattle.text.specs.Text.{decimal}
-use Rattle.text.specs.Parts.{gap}
+use Rattle.text.specs.Private.Parts.{gap}
 use Rattle.text.proofs.Puts.{puts-same, puts-then}
 use Rattle.text.proofs.Shapes.{gap-some}
 use Rattle.text.proofs.item.Statement.{statement}

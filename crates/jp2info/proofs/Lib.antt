@@ -1,0 +1,2 @@
+pub mod Utf8s
+pub mod Quotes
