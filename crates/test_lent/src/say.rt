@@ -1,15 +1,9 @@
-// A case, what a reader answered, and numbers of the record after it.
+// A case, the answer of a reader, and numbers of the record after it.
 use libc::STDOUT_FILENO;
 use read_record::Answer;
 use read_record::Jp2;
 use read_record::Outcome;
-
-// A shape in which each # stands for the next of the numbers.
-fn say(shape: &[u8], numbers: &[usize]) {
-    let mut d = io::buffer();
-    let n = text::fill(&mut d, 0, shape, numbers);
-    io::write_all(STDOUT_FILENO, box_number::part(&d, 0, n));
-}
+use test_lines::say;
 
 pub fn came(case: &[u8], r: Outcome) -> Jp2 {
     io::write_all(STDOUT_FILENO, case);
@@ -25,6 +19,7 @@ fn answer(a: Answer) {
         Answer::Done => say(b" = done", &[]),
         Answer::Refused(n, place) => say(b" = refused # at #", &[n as usize, place as usize]),
     }
+    ;
 }
 
 fn record(j: Jp2) {

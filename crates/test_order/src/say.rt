@@ -2,14 +2,8 @@
 use libc::STDOUT_FILENO;
 use picture_lent::Comp;
 use read_record::Answer;
+use test_lines::say;
 use trial_lent::Four;
-
-// A shape in which each # stands for the next of the numbers.
-fn say(shape: &[u8], numbers: &[usize]) {
-    let mut d = io::buffer();
-    let n = text::fill(&mut d, 0, shape, numbers);
-    io::write_all(STDOUT_FILENO, box_number::part(&d, 0, n));
-}
 
 pub fn came(case: &[u8], r: Four) {
     io::write_all(STDOUT_FILENO, case);
@@ -35,6 +29,7 @@ fn answer(a: Answer) {
             &[n as usize, place as usize],
         ),
     }
+    ;
 }
 
 // The planes' names are 0 to 3 in `data`, for A to D.
