@@ -71,17 +71,6 @@ not-file k = by-tag (0 ∷ 1 ∷ 5 ∷ 6 ∷ 7 ∷ 8 ∷ 9 ∷ 10 ∷ 11 ∷ 12 
 pub not-image : (k : Jp2BoxType) → OneOf (0 ∷ 1 ∷ 2 ∷ 3 ∷ 4 ∷ 7 ∷ 8 ∷ 12 ∷ 14 ∷ 15 ∷ 16 ∷ 17 ∷ 18 ∷ 19 ∷ 20 ∷ []) (tagOf the-type k) → false ≡ holds (isImageHeader k)
 not-image k = by-tag (0 ∷ 1 ∷ 2 ∷ 3 ∷ 4 ∷ 7 ∷ 8 ∷ 12 ∷ 14 ∷ 15 ∷ 16 ∷ 17 ∷ 18 ∷ 19 ∷ 20 ∷ []) (λ l. holds (isImageHeader l)) k (elim k [ None ↦ tt | JPIP ↦ tt | JP ↦ tt | FTYP ↦ tt | JP2H ↦ tt | IHDR ↦ tt | COLR ↦ tt | JP2C ↦ tt | URL ↦ tt | PCLR ↦ tt | CMAP ↦ tt | CDEF ↦ tt | DTBL ↦ tt | BPCC ↦ tt | JP2 ↦ tt | RES ↦ tt | JP2I ↦ tt | XML ↦ tt | UUID ↦ tt | UINF ↦ tt | Unknown n ↦ tt ])
 
--- a kind that was read from a number is the kind of that number
-pub is-kind : {n : ℕ} {k : Jp2BoxType} {l : Jp2BoxType} → k ≡ kindOf n → k ≡ l → n ≡ numberOf l
-is-kind {n} e f = sym (number-back n) ∙ ap numberOf (sym e ∙ f)
-
--- a kind whose tag is not in a list is not the kind of a number whose tag is
-pub not-kind : (ks : List ℕ) (m : ℕ) {n : ℕ} {k : Jp2BoxType} → T (not (hasKey ks (tagOf the-type (kindOf m)))) → k ≡ kindOf n → OneOf ks (tagOf the-type k) → n ≡ m → ⊥
-not-kind ks m t e h f = miss ks (tagOf the-type (kindOf m)) t (subst (λ (l : Jp2BoxType). OneOf ks (tagOf the-type l)) (e ∙ ap kindOf f) h)
-
-pub proper-kind : (n : ℕ) {k : Jp2BoxType} → k ≡ kindOf n → k ≡ kindOf (numberOf k)
-proper-kind n e = e ∙ ap kindOf (sym (number-back n) ∙ ap numberOf (sym e))
-
 -- the tag that a `match` looks at is the kind's place in the list of names
 pub tag-is : (k : Jp2BoxType) → tagOf the-type k ≡ tag k
 tag-is k = elim k [ None ↦ refl | JPIP ↦ refl | JP ↦ refl | FTYP ↦ refl | JP2H ↦ refl | IHDR ↦ refl | COLR ↦ refl | JP2C ↦ refl | URL ↦ refl | PCLR ↦ refl | CMAP ↦ refl | CDEF ↦ refl | DTBL ↦ refl | BPCC ↦ refl | JP2 ↦ refl | RES ↦ refl | JP2I ↦ refl | XML ↦ refl | UUID ↦ refl | UINF ↦ refl | Unknown n ↦ refl ]

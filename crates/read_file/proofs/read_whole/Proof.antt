@@ -3,7 +3,6 @@
 use native.Mathlib.Omega.{arith}
 use mathlib.Core.Path.{ap, _∙_}
 use Rattle.box_number.proofs.Numbers.{part-most}
-use Rattle.box_header.specs.declared.Jp2BoxHeader.{Jp2BoxHeader}
 use Rattle.box_header.proofs.Headers.{part-content}
 use Rattle.read_record.specs.Answer.{answer}
 use Rattle.read_jp2h.specs.Split.{Box}

@@ -6,7 +6,6 @@ use lib.ListN.{length}
 use Rattle.box_number.specs.Number.{part}
 use Rattle.box_number.specs.Table.{_=?_, _≠?_, _<?_, flag, _or_, otherwise, _⇒_∣_, table}
 use Rattle.box_header.specs.Box.{largest, LBox, headerLength, boxLength, headerOf}
-use Rattle.box_header.specs.declared.Jp2BoxHeader.{Jp2BoxHeader}
 use Rattle.box_kind.specs.declared.Jp2BoxType.{Jp2BoxType}
 use Rattle.read_record.specs.declared.Jp2.{Jp2}
 use Rattle.read_record.specs.declared.Status.{Status}
