@@ -12,13 +12,12 @@ use lib.Seq.{getD-append-add, getD-drop, ext-getD}
 use Rattle.box_number.specs.Table.{_=?_, _and_, otherwise, _⇒_∣_, table}
 use Rattle.box_number.proofs.Rows.{row, each, either}
 use Rattle.read_record.specs.declared.Span.{Span}
-use Rattle.read_channels.specs.Cdef.{Cn, Typ, Asoc}
-use Rattle.read_channels.specs.Definitions.{Def, def, definition, definitions, definitionsTo}
+use Rattle.read_channels.specs.Definitions.{Def, definition, definitions, definitionsTo}
 use Rattle.picture_rules.specs.Order.{Arranged, define, run, arranged}
 use Rattle.picture_rules.specs.Flat.{flat}
 use Rattle.picture_rules.proofs.Flats.{flat-length, flat-number}
 use Rattle.picture_order.specs.Flat.{numberOf, reordered}
-use Rattle.picture_order.specs.Steps.{Agree}
+use Rattle.picture_order.specs.Private.Steps.{Agree}
 use Rattle.picture_rules.proofs.Exchange
 use Rattle.picture_rules.proofs.Steps.{rows}
 
@@ -50,10 +49,9 @@ unfolding run
 run-last n [] d a = refl
 run-last n (e ∷ ds) d a = run-last n ds d (define n e a)
 
-pub agree-more : (f : List ℕ) (l : Span) (n i : ℕ) (records : ℕ → ℕ → ℕ) (c t s : ℕ) (recs seat : List ℕ) → c ≡ Cn f l i → t ≡ Typ f l i → s ≡ Asoc f l i → Agree n recs seat (define n (def c t s) (arranged n (definitionsTo f l i) records)) → Agree n recs seat (arranged n (definitionsTo f l (i + 1)) records)
+pub agree-more : (f : List ℕ) (l : Span) (n i : ℕ) (records : ℕ → ℕ → ℕ) (recs positions : List ℕ) → Agree n recs positions (define n (definition f l i) (arranged n (definitionsTo f l i) records)) → Agree n recs positions (arranged n (definitionsTo f l (i + 1)) records)
 unfolding definitionsTo
-agree-more f l n i records c t s recs seat ec et es g =
-    rw (add-one, run-last n (definitionsTo f l i) (definition f l i)) (rw (ec, et, es) at g)
+agree-more f l n i records recs positions g = rw (add-one, run-last n (definitionsTo f l i) (definition f l i)) g
 
 pub whole : (f : List ℕ) (cdef : Span) (n : ℕ) (l recs : List ℕ) → length recs ≡ length l → 13 * n ≤ length l → ((r k : ℕ) → k < 13 → arranged n (definitions f cdef) (numberOf l) .records r k ≡ numberOf recs r k) → recs ≡ reordered f cdef n l
 unfolding reordered

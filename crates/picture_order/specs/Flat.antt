@@ -6,24 +6,25 @@ use Rattle.box_number.specs.Table.{Test, _<?_, _or_, otherwise, _⇒_∣_, tabl
 use Rattle.read_record.specs.declared.Span.{Span}
 use Rattle.read_record.specs.declared.Answer.{Answer}
 use Rattle.read_record.specs.declared.Answer.the-variants.{Done, Refused}
-use Rattle.read_channels.specs.Definitions.{definitions}
+use Rattle.read_record.specs.Component.{numbersEach, mostComponents}
+use Rattle.read_channels.specs.Definitions.{definitions, definitionsOutside}
 use Rattle.picture_rules.specs.Order.{arranged}
 use Rattle.picture_rules.specs.Flat.{flat}
 
 -- number k of record r
 abbrev pub numberOf : List ℕ → ℕ → ℕ → ℕ
-numberOf l r k = getD l (13 * r + k) 0
+numberOf l r k = getD l (numbersEach * r + k) 0
 
 -- the list l with its first n records in the order of the definitions, and the rest as it was
 unfoldable pub reordered : List ℕ → Span → ℕ → List ℕ → List ℕ
 reordered f cdef n l =
     let a = arranged n (definitions f cdef) (numberOf l) in
-    flat (a .records) (13 * n) ++ drop (13 * n) l
+    flat (a .records) (numbersEach * n) ++ drop (numbersEach * n) l
 
 -- number 29: too many records, records outside their list, or definitions outside the file
 abbrev pub outside : List ℕ → Span → ℕ → List ℕ → Test
 outside f cdef n l =
-    16384 <? n or length l <? 13 * n or 65535 <? cdef .count or length f <? cdef .place + 6 * cdef .count
+    mostComponents <? n or length l <? numbersEach * n or definitionsOutside f cdef
 
 unfoldable pub answered : List ℕ → Span → ℕ → List ℕ → Answer
 answered f cdef n l = table (outside f cdef n l ⇒ Refused 29 0 ∣ otherwise Done)

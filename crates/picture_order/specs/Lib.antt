@@ -1,2 +1,5 @@
 pub mod Flat
-pub mod Steps
+pub mod Comps
+pub mod Exact
+pub mod Agree
+pub mod Private

@@ -1,5 +1,6 @@
 // Document 01's marked cases on reading, a line each: the case = what came.
 mod files;
+mod lend;
 mod say;
 
 fn main() {

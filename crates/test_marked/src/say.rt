@@ -13,7 +13,7 @@ pub fn came(case: &[u8], file: &[u8]) {
 
 // The same over a lent record, and the width that stands in it afterwards.
 fn lent(file: &[u8]) {
-    let r = trial_lent::lend_header_procedure(file, read_record::opj_jp2_create());
+    let r = crate::lend::lend_header_procedure(file, read_record::opj_jp2_create());
     let a = r.answer;
     answer(b"; lent ", a);
     say(b", width #\n", &[wide(r.jp2.image.w)]);

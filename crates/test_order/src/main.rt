@@ -1,7 +1,8 @@
 // Document 01's marked cases on order, over a lent list of four component records, a line each, and a case that is refused. The records past a case's planes are left.
-use picture_lent::Comp;
+use picture_order::lent::Comp;
 use read_record::Span;
 
+mod lend;
 mod say;
 
 fn main() {
@@ -63,5 +64,5 @@ fn run(case: &[u8], f: &[u8], count: usize, n: u32) {
         place: 0,
         count: count,
     };
-    say::came(case, trial_lent::apply_four(f, list, cs, n));
+    say::came(case, lend::apply_four(f, list, cs, n));
 }

@@ -1,9 +1,9 @@
 // A case, what the reorder answered, and the planes and marks after it.
+use crate::lend::Four;
 use libc::STDOUT_FILENO;
-use picture_lent::Comp;
+use picture_order::lent::Comp;
 use read_record::Answer;
 use test_lines::say;
-use trial_lent::Four;
 
 pub fn came(case: &[u8], r: Four) {
     io::write_all(STDOUT_FILENO, case);

@@ -1,6 +1,0 @@
-pub mod Task
-pub mod Comps
-pub mod Steps
-pub mod Tasks
-pub mod Exact
-pub mod Agree

@@ -1,0 +1,35 @@
+-- Record by record, the list afterwards is the definition applied to the list before.
+-- Assumes nothing.
+use Prim.Native.Nat.{ℕ, _+_, _*_, _<_}
+use native.Mathlib.Omega.{arith}
+use mathlib.Core.Path.{_≡_, refl, sym, ap, _∙_}
+use mathlib.Core.Bool.{false}
+use mathlib.Core.List.{List}
+use lib.ListN.{drop, List·getD-append}
+use Rattle.box_number.proofs.Rows.{Says, row}
+use Rattle.read_record.specs.declared.Span.{Span}
+use Rattle.read_channels.specs.Definitions.{definitions}
+use Rattle.picture_rules.specs.Order.{arranged}
+use Rattle.picture_rules.specs.Flat.{flat}
+use Rattle.picture_rules.proofs.Flats.{flat-length, flat-at}
+use Rattle.picture_rules.proofs.Alike.{arranged-alike}
+use Rattle.picture_order.specs.Flat.{numberOf, outside, reordered, afterwards}
+use Rattle.picture_order.specs.Comps.{numbered}
+use Rattle.picture_order.specs.Agree.{RecordByRecord}
+use Rattle.picture_order.proofs.Numbered.{numbered-at}
+
+-- number k of record r of a list that was put in order
+number-in-order : (f : List ℕ) (cdef : Span) (n : ℕ) (l : List ℕ) (r k : ℕ) → r < n → k < 13 → numberOf (reordered f cdef n l) r k ≡ arranged n (definitions f cdef) (numberOf l) .records r k
+unfolding reordered
+number-in-order f cdef n l r k h b =
+    let records = arranged n (definitions f cdef) (numberOf l) .records in
+    List·getD-append (flat records (13 * n)) (drop (13 * n) l) 0 (13 * r + k) (omega (arith, flat-length records (13 * n))) ∙ flat-at records n r k h b
+
+inside-is : (f : List ℕ) (cdef : Span) (n : ℕ) (l : List ℕ) → Says false (outside f cdef n l) → afterwards f cdef n l ≡ reordered f cdef n l
+unfolding afterwards
+inside-is f cdef n l h = sym (row 1 _ (h, tt) refl)
+
+pub record-by-record : RecordByRecord
+record-by-record f cdef n cs after inside e r k h b =
+    sym (numbered-at after r k b) ∙ ap (λ l. numberOf l r k) (e ∙ inside-is f cdef n (numbered cs) inside) ∙ number-in-order f cdef n (numbered cs) r k h b
+    ∙ arranged-alike n (definitions f cdef) (numberOf (numbered cs)) _ (λ p i _ c. numbered-at cs p i c) r k h b

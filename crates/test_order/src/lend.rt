@@ -1,0 +1,23 @@
+// The reorder over a lent list of component records, for callers that have the records by value: it lends a local of its own, takes the records back and answers both.
+ghost use mathlib.Core.Path.{_≡_};
+ghost use Rattle.picture_order.specs.Flat.{answered, afterwards};
+ghost use Rattle.picture_order.specs.Comps.{numbered};
+use picture_order::lent::Comp;
+use read_record::Answer;
+use read_record::Span;
+
+pub struct Four {
+    pub answer: Answer,
+    pub comps: [Comp; 4],
+}
+
+pub fn apply_four(f: &[u8], cdef: Span, cs: [Comp; 4], n: u32) -> Four
+    ensures { λ r. ⌜ (r .answer ≡ answered (now (f .entry)) cdef n (numbered cs)) × (numbered (r .comps) ≡ afterwards (now (f .entry)) cdef n (numbered cs)) ⌝ }
+{
+    let mut l = cs;
+    let a = picture_order::lent::opj_jp2_apply_cdef(f, cdef, &mut l, n);
+    Four {
+        answer: a,
+        comps: l,
+    }
+}
