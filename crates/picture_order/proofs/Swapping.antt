@@ -9,6 +9,7 @@ use lib.ListN.{length, getD, set, length-set}
 use lib.Seq.{getD-set-same, getD-set-other}
 use Rattle.picture_rules.specs.Order.{exchange}
 use Rattle.picture_order.specs.Flat.{numberOf}
+use Rattle.picture_order.specs.Private.Steps.{Exchanged}
 use Rattle.picture_rules.proofs.Exchange
 
 -- l with what stands at a and at b exchanged
@@ -44,6 +45,10 @@ spot p q k r =
 
 off : (p q k r j : ℕ) → k < 13 → j < 13 → (j ≡ k → ⊥) → exchange (13 * p + k) (13 * q + k) (13 * r + j) ≡ 13 * r + j
 off p q k r j hk hj e = Exchange.other (13 * p + k) (13 * q + k) (13 * r + j) (omega arith) (omega arith)
+
+-- a record that changes places with itself
+pub exchanged-self : (p q : ℕ) (l : List ℕ) → p ≡ q → Exchanged p q l l
+exchanged-self p q l e = λ r k h. ap (λ i. numberOf l i k) (sym (ap (λ x. exchange p x r) (sym e) ∙ Exchange.none p r))
 
 -- the first k numbers of the records p and q of l are exchanged in m
 pub record Partly (p q : ℕ) (l : List ℕ) (k : ℕ) (m : List ℕ) : Type 0 where

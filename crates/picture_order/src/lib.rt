@@ -22,6 +22,9 @@ fn swap_records(recs: &mut [u32], p: usize, q: usize)
     requires { do ⌜ 13 * q + 13 ≤ (← ⟦recs.len()⟧) ⌝ }
     ensures { λ _. ⌜ Exchanged p q (now (recs .entry)) (now (recs .exit)) ⌝ }
 {
+    if p == q {
+        return;
+    }
     let a = COMPONENT_NUMBERS * p;
     let b = COMPONENT_NUMBERS * q;
     let mut k: usize = 0;

@@ -4,7 +4,7 @@ use Prim.Native.Nat.{_≤_, _-_}
 use native.Mathlib.Omega.{arith}
 use borrow.Author.Needs.{needs}
 use lib.ListN.{length-set}
-use Rattle.picture_order.proofs.Swapping.{Partly, partly-none, partly-more}
+use Rattle.picture_order.proofs.Swapping.{exchanged-self, Partly, partly-none, partly-more}
 use Rattle.picture_order.proofs.swap_records.Statement.{statement}
 use Rattle.picture_order.proofs.swap_records.Tie as tie
 
@@ -13,6 +13,9 @@ Inv-loop recs₀ p q a b k₀ recs k = (k ≤ 13) × Partly p q recs₀ k recs
 
 abbrev μ-loop : tie.MeasureT-loop
 μ-loop recs₀ p q a b k₀ recs k = 13 - k
+
+returns : tie.Need-returns Inv-loop μ-loop
+returns c = exchanged-self _ _ (c .before .args .recs .now) (c .if1 .taken)
 
 mul-a : tie.Need-mul-a Inv-loop μ-loop
 mul-a c = search needs
@@ -71,8 +74,8 @@ loop-again c = (omega arith, partly-more _ _ _ _ _ (omega arith) (omega arith) (
 same-length : tie.Need-same-length Inv-loop μ-loop
 same-length c = search needs
 
-returns : tie.Need-returns Inv-loop μ-loop
-returns c = λ r j h. c .before .loop .inv .1 .past r j (omega arith) h
+returns-2 : tie.Need-returns-2 Inv-loop μ-loop
+returns-2 c = λ r j h. c .before .loop .inv .1 .past r j (omega arith) h
 
 pub swap-records-spec : {M : Type 1} → statement M
 swap-records-spec =
@@ -80,6 +83,7 @@ swap-records-spec =
     (tie.spec
     Inv-loop
     μ-loop
+    returns
     mul-a
     mul-b
     loop-holds
@@ -99,4 +103,4 @@ swap-records-spec =
     loop-less
     loop-again
     same-length
-    returns)
+    returns-2)
