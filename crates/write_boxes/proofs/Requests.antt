@@ -16,7 +16,7 @@ use Rattle.write_rules.specs.Request.{Request, asked}
 use Rattle.read_record.specs.Component.{mostComponents}
 use Rattle.write_rules.specs.Setup.{N, fieldsOf, ill, setUp}
 use Rattle.write_rules.specs.Writing.{declined, writeFields, afterSetUp, write}
-use Rattle.write_boxes.specs.Private.Sound.{Sound}
+use Rattle.write_boxes.specs.Private.Writable.{Writable}
 
 module _ (comps : List ℕ) (count x0 y0 x1 y1 space : ℕ) (profile : List ℕ) (codestream room : ℕ) where
   abbrev r : Request
@@ -34,17 +34,17 @@ module _ (comps : List ℕ) (count x0 y0 x1 y1 space : ℕ) (profile : List ℕ)
   unfolding N
   few-definitions many h = each (λ n. n ≤ mostComponents) _ ((λ _. omega arith), λ _. ((λ _. omega arith), λ _. ((λ _. omega arith), λ _. h)))
 
-  sound : Says false (count =? 0 or mostComponents <? count) → count ≤ lowest (ill comps) count → Sound comps (fieldsOf r)
-  sound some h = record { few = some .1; well = lowest-none (ill comps) count h; defined = few-definitions (fieldsOf r .colours) (some .1) }
+  writable : Says false (count =? 0 or mostComponents <? count) → count ≤ lowest (ill comps) count → Writable comps (fieldsOf r)
+  writable some h = record { few = some .1; well = lowest-none (ill comps) count h; defined = few-definitions (fieldsOf r .colours) (some .1) }
 
   -- fields that are set up have been tested
   abbrev Tested : Encoder → Type 0
-  Tested (Ready s) = Sound comps s
+  Tested (Ready s) = Writable comps s
   Tested (Refused number index) = Unit
 
   tested : Tested (setUp r)
   unfolding setUp
-  tested = each Tested _ ((λ _. tt), λ some. ((λ _. tt), λ _. ((λ _. tt), λ h. sound some h)))
+  tested = each Tested _ ((λ _. tt), λ some. ((λ _. tt), λ _. ((λ _. tt), λ h. writable some h)))
 
   module _ {e : Encoder} (is : e ≡ setUp q) where
     written-as : write r ≡ afterSetUp r e
@@ -54,5 +54,5 @@ module _ (comps : List ℕ) (count x0 y0 x1 y1 space : ℕ) (profile : List ℕ)
     pub setup-refused : {number place : ℕ} → e ≡ Refused number place → write r ≡ declined number place
     setup-refused h = rw h at written-as
 
-    pub setup-ready : {s : Fields} → e ≡ Ready s → (write r ≡ writeFields comps s profile codestream room) × Sound comps s
+    pub setup-ready : {s : Fields} → e ≡ Ready s → (write r ≡ writeFields comps s profile codestream room) × Writable comps s
     setup-ready h = let t : Tested e = rw (is, same) tested in (rw h at written-as, rw h at t)

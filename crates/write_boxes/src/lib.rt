@@ -16,12 +16,12 @@ ghost use Rattle.write_rules.specs.FileType.{fileType};
 ghost use Rattle.write_rules.specs.Ihdr.{ihdr};
 ghost use Rattle.write_rules.specs.Bpcc.{bpccContent, bpcc};
 ghost use Rattle.write_rules.specs.Colr.{specification, colr};
-ghost use Rattle.write_rules.specs.Cdef.{definitionBytes, definitions, cdef};
+ghost use Rattle.write_rules.specs.Cdef.{cdefEntry, cdefEntries, cdef};
 ghost use Rattle.write_rules.specs.Jp2h.{jp2h};
 ghost use Rattle.write_rules.specs.Writing.{front, mostProfile, mostCodestream, writeFields, write, destination};
 ghost use Rattle.write_boxes.specs.Answers.{answered};
 ghost use Rattle.write_boxes.specs.Private.Lengths.{bpccLength, colrLength, cdefLength, jp2hLength, frontLength};
-ghost use Rattle.write_boxes.specs.Private.Sound.{Sound};
+ghost use Rattle.write_boxes.specs.Private.Writable.{Writable};
 use box_header::Jp2BoxHeader;
 use box_kind::Jp2BoxType;
 use read_record::ALPHA;
@@ -225,7 +225,7 @@ fn put_definition(d: &mut [u8], at: usize, channel: u32, typ: u32, asoc: u32) ->
 // The definition of channel c: a colour, the opacity, or a channel of which nothing is said.
 fn define(d: &mut [u8], at: usize, comps: &[u32], colours: u32, c: u32) -> usize
     requires { ⌜ (at + 6 ≤ length (now d)) × (c < mostComponents) ⌝ }
-    ensures { λ r. ⌜ (r ≡ at + 6) × (now (d .exit) ≡ placed (now (d .entry)) at (definitionBytes (definition (now (comps .entry)) colours c))) ⌝ }
+    ensures { λ r. ⌜ (r ≡ at + 6) × (now (d .exit) ≡ placed (now (d .entry)) at (cdefEntry (definition (now (comps .entry)) colours c))) ⌝ }
 {
     if c < colours {
         return put_definition(d, at, c, COLOUR, c + 1);
@@ -239,7 +239,7 @@ fn define(d: &mut [u8], at: usize, comps: &[u32], colours: u32, c: u32) -> usize
 // The definitions of the n channels.
 fn put_definitions(d: &mut [u8], at: usize, comps: &[u32], colours: u32, n: u32) -> usize
     requires { ⌜ (at + 6 * n ≤ length (now d)) × (n ≤ mostComponents) ⌝ }
-    ensures { λ r. ⌜ (r ≡ at + 6 * n) × (now (d .exit) ≡ placed (now (d .entry)) at (definitions (now (comps .entry)) colours n)) ⌝ }
+    ensures { λ r. ⌜ (r ≡ at + 6 * n) × (now (d .exit) ≡ placed (now (d .entry)) at (cdefEntries (now (comps .entry)) colours n)) ⌝ }
 {
     let mut a = at;
     let mut c: u32 = 0;
@@ -294,7 +294,7 @@ fn jp2h_length(s: Fields, profile: u32) -> u32
 
 // jp2h: ihdr, bpcc, colr and cdef.
 fn opj_jp2_write_jp2h(d: &mut [u8], at: usize, comps: &[u32], s: Fields, profile: &[u8]) -> usize
-    requires { ⌜ (at + (8 + jp2hLength s (length (now profile))) ≤ length (now d)) × Sound (now comps) s × (length (now profile) ≤ mostProfile) ⌝ }
+    requires { ⌜ (at + (8 + jp2hLength s (length (now profile))) ≤ length (now d)) × Writable (now comps) s × (length (now profile) ≤ mostProfile) ⌝ }
     ensures { λ r. ⌜ (r ≡ at + (8 + jp2hLength s (length (now (profile .entry))))) × (now (d .exit) ≡ placed (now (d .entry)) at (jp2h (now (comps .entry)) s (now (profile .entry)))) ⌝ }
 {
     let a0 = put_header(
@@ -311,7 +311,7 @@ fn opj_jp2_write_jp2h(d: &mut [u8], at: usize, comps: &[u32], s: Fields, profile
 
 // All boxes and the header of the codestream's box, from the start of d on.
 fn write_front(d: &mut [u8], comps: &[u32], s: Fields, profile: &[u8], codestream: u32)
-    requires { ⌜ (frontLength s (length (now profile)) ≤ length (now d)) × (codestream ≤ mostCodestream) × Sound (now comps) s × (length (now profile) ≤ mostProfile) ⌝ }
+    requires { ⌜ (frontLength s (length (now profile)) ≤ length (now d)) × (codestream ≤ mostCodestream) × Writable (now comps) s × (length (now profile) ≤ mostProfile) ⌝ }
     ensures { λ _. ⌜ now (d .exit) ≡ placed (now (d .entry)) 0 (front (now (comps .entry)) s (now (profile .entry)) codestream) ⌝ }
 {
     let a0 = opj_jp2_write_jp(d, 0);
@@ -332,7 +332,7 @@ fn opj_jp2_default_validation(s: Fields) -> bool
 
 // Writes the boxes of a picture whose fields are set up: 33, 34 and 30 first.
 fn write_fields(d: &mut [u8], comps: &[u32], s: Fields, profile: &[u8], codestream: u64) -> Written
-    requires { ⌜ Sound (now comps) s ⌝ }
+    requires { ⌜ Writable (now comps) s ⌝ }
     ensures { λ r. ⌜ (r ≡ answered (writeFields (now (comps .entry)) s (now (profile .entry)) codestream (length (now (d .entry))))) × (now (d .exit) ≡ destination (now (d .entry)) (writeFields (now (comps .entry)) s (now (profile .entry)) codestream (length (now (d .entry))))) ⌝ }
 {
     if !opj_jp2_default_validation(s) {

@@ -25,14 +25,14 @@ use Rattle.write_rules.specs.FileType.{CL, fileType}
 use Rattle.write_rules.specs.Ihdr.{ihdr}
 use Rattle.write_rules.specs.Bpcc.{bpcc, bpccContent}
 use Rattle.write_rules.specs.Colr.{colr, specification, colrContent}
-use Rattle.write_rules.specs.Cdef.{definitionBytes, cdef, cdefContent}
+use Rattle.write_rules.specs.Cdef.{cdefEntry, cdef, cdefContent}
 use Rattle.write_rules.specs.Jp2h.{jp2h, jp2hContent}
 use Rattle.write_rules.specs.Stream.{streamHeader}
 use Rattle.write_rules.specs.Writing.{front}
 use Rattle.write_rules.specs.RoundTrip.{depthCount, depthByte, RoundTrip, FileFits}
 use Rattle.write_rules.proofs.Numbers.{number-last}
 use Rattle.write_rules.proofs.Bounds.{Fit, accepted-fits, byte-most, byte-precision, one-depth, n-most, meth-cases, definition-most}
-use Rattle.write_rules.proofs.Lengths.{length-signature, length-type, length-ihdr, length-bpccContent, length-series, length-definition}
+use Rattle.write_rules.proofs.Lengths.{length-signature, length-type, length-ihdr, length-bpccContent, length-series, length-cdefEntry}
 use Rattle.write_rules.proofs.Children.{spec-two}
 use Rattle.write_rules.proofs.Header.{colrAt, cdefAt, bitsAt, iccAt, defsAt, bpcc-none, bpcc-some, icc-none, icc-some, cdef-none, cdef-some, children-most}
 use Rattle.write_rules.proofs.Places.{lies-right, lies-left, lies-content, number-lies, part-lies, number-series}
@@ -45,7 +45,7 @@ empty (x ∷ xs) e = absurd (omega arith)
 grouped : (a b c d : List ℕ) → a ++ b ++ c ++ d ≡ a ++ (b ++ (c ++ d))
 grouped a b c d = simp append-assoc
 
-fields-back : (d : Def) → (d .channel < 65536) × (d .typ < 65536) × (d .asoc < 65536) → (number (definitionBytes d) 0 2 ≡ d .channel) × (number (definitionBytes d) 2 2 ≡ d .typ) × (number (definitionBytes d) 4 2 ≡ d .asoc)
+fields-back : (d : Def) → (d .channel < 65536) × (d .typ < 65536) × (d .asoc < 65536) → (number (cdefEntry d) 0 2 ≡ d .channel) × (number (cdefEntry d) 2 2 ≡ d .typ) × (number (cdefEntry d) 4 2 ≡ d .asoc)
 unfolding number bytes
 fields-back d h = (omega arith, omega arith, omega arith)
 
@@ -124,7 +124,7 @@ module _ (r : Request) (fit : Fit r) (stream : List ℕ) where
 
   -- the definitions
   abbrev piece : ℕ → List ℕ
-  piece c = definitionBytes (definition (r .components) (fieldsOf r .colours) c)
+  piece c = cdefEntry (definition (r .components) (fieldsOf r .colours) c)
 
   defs-back : defsAt r .count ≡ fieldsOf r .definitions
   defs-back = decide (fieldsOf r .definitions =? 0) (λ h. rw (cdef-none r h .1) (sym h)) (λ h. rw (cdef-some r h .1) refl)
@@ -141,8 +141,8 @@ module _ (r : Request) (fit : Fit r) (stream : List ℕ) where
     -- a number of definition i
     field-back : (at j : ℕ) → at ≡ place + (6 * i + j) → j + 2 ≤ 6 → number f at 2 ≡ number (piece i) j 2
     field-back at j e h =
-        let s = length-series piece 6 (λ c. length-definition (definition (r .components) (fieldsOf r .colours) c)) (fieldsOf r .definitions) in
-        rw e (number-lies series-lies (6 * i + j) 2 (omega arith) ∙ number-series piece 6 (λ c. length-definition (definition (r .components) (fieldsOf r .colours) c)) (fieldsOf r .definitions) i j 2 l h)
+        let s = length-series piece 6 (λ c. length-cdefEntry (definition (r .components) (fieldsOf r .colours) c)) (fieldsOf r .definitions) in
+        rw e (number-lies series-lies (6 * i + j) 2 (omega arith) ∙ number-series piece 6 (λ c. length-cdefEntry (definition (r .components) (fieldsOf r .colours) c)) (fieldsOf r .definitions) i j 2 l h)
 
     definition-is : order.definition f (span place (fieldsOf r .definitions)) i ≡ definition (r .components) (fieldsOf r .colours) i
     definition-is =

@@ -14,7 +14,7 @@ use Rattle.box_number.proofs.Indices.{decide, lowest-none}
 use Rattle.write_rules.specs.declared.Encoder.the-variants.{Ready}
 use Rattle.write_rules.specs.Request.{Request, precision, sign}
 use Rattle.read_record.specs.Component.{mostComponents}
-use Rattle.write_rules.specs.Setup.{wrapping, BPCi, BPC, METH, EnumCS, N, definition, varies, other, mostBits, fieldsOf, ill, setUp}
+use Rattle.write_rules.specs.Setup.{wrapping, BPCi, BPC, METH, EnumCS, N, definition, varies, otherBits, mostBits, fieldsOf, ill, setUp}
 use Rattle.write_rules.specs.Writing.{Writing, written, declined, front, mostProfile, mostCodestream, writeFields, afterSetUp, write}
 
 -- what no row of the table refuses
@@ -98,7 +98,7 @@ module _ (r : Request) (fit : Fit r) where
   unfolding BPC
   one-depth =
       each (λ n. (n ≡ varies → ⊥) → (n ≡ BPCi (r .components) 0) × ((c : ℕ) → c < r .count → precision (r .components) c ≡ precision (r .components) 0)) _
-      ((λ _ h. absurd (h refl)), λ same _. (refl, lowest-none (other (r .components)) (r .count) same))
+      ((λ _ h. absurd (h refl)), λ same _. (refl, lowest-none (otherBits (r .components)) (r .count) same))
 
   -- definitions are of all components or of none
   pub n-most : fieldsOf r .definitions ≤ r .count

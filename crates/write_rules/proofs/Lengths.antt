@@ -19,7 +19,7 @@ use Rattle.write_rules.specs.FileType.{fileTypeContent, fileType}
 use Rattle.write_rules.specs.Ihdr.{ihdrContent, ihdr}
 use Rattle.write_rules.specs.Bpcc.{bpccContent}
 use Rattle.write_rules.specs.Colr.{specification, colrContent}
-use Rattle.write_rules.specs.Cdef.{definitionBytes, definitions, cdefContent}
+use Rattle.write_rules.specs.Cdef.{cdefEntry, cdefEntries, cdefContent}
 
 pub length-header : (kind : Jp2BoxType) (n : ℕ) → length (boxHeader kind n) ≡ 8
 unfolding boxHeader
@@ -52,11 +52,11 @@ length-bpccContent comps n = omega (arith, length-series (λ c. bytes 1 (BPCi co
 pub length-colrContent : (s : Fields) (profile : List ℕ) → length (colrContent s profile) ≡ 3 + length (specification s profile)
 length-colrContent s profile = simp (length-append, length-bytes) (omega arith)
 
-pub length-definition : (d : Def) → length (definitionBytes d) ≡ 6
-length-definition d = simp (length-append, length-bytes)
+pub length-cdefEntry : (d : Def) → length (cdefEntry d) ≡ 6
+length-cdefEntry d = simp (length-append, length-bytes)
 
-pub length-definitions : (comps : List ℕ) (many n : ℕ) → length (definitions comps many n) ≡ 6 * n
-length-definitions comps many n = length-series (λ c. definitionBytes (definition comps many c)) 6 (λ i. length-definition (definition comps many i)) n
+pub length-cdefEntries : (comps : List ℕ) (many n : ℕ) → length (cdefEntries comps many n) ≡ 6 * n
+length-cdefEntries comps many n = length-series (λ c. cdefEntry (definition comps many c)) 6 (λ i. length-cdefEntry (definition comps many i)) n
 
 pub length-cdefContent : (comps : List ℕ) (s : Fields) → length (cdefContent comps s) ≡ 2 + 6 * s .definitions
-length-cdefContent comps s = let e = length-definitions comps (s .colours) (s .definitions) in simp (length-append, length-bytes, e)
+length-cdefContent comps s = let e = length-cdefEntries comps (s .colours) (s .definitions) in simp (length-append, length-bytes, e)

@@ -10,15 +10,15 @@ use Rattle.write_rules.specs.Box.{box, series}
 use Rattle.write_rules.specs.Setup.{definition}
 
 -- Cn, Typ and Asoc
-abbrev pub definitionBytes : Def → List ℕ
-definitionBytes d = bytes 2 (d .channel) ++ bytes 2 (d .typ) ++ bytes 2 (d .asoc)
+abbrev pub cdefEntry : Def → List ℕ
+cdefEntry d = bytes 2 (d .channel) ++ bytes 2 (d .typ) ++ bytes 2 (d .asoc)
 
 -- the first n definitions
-abbrev pub definitions : List ℕ → ℕ → ℕ → List ℕ
-definitions comps many n = series (λ c. definitionBytes (definition comps many c)) n
+abbrev pub cdefEntries : List ℕ → ℕ → ℕ → List ℕ
+cdefEntries comps many n = series (λ c. cdefEntry (definition comps many c)) n
 
 abbrev pub cdefContent : List ℕ → Fields → List ℕ
-cdefContent comps s = bytes 2 (s .definitions) ++ definitions comps (s .colours) (s .definitions)
+cdefContent comps s = bytes 2 (s .definitions) ++ cdefEntries comps (s .colours) (s .definitions)
 
 unfoldable pub cdef : List ℕ → Fields → List ℕ
 cdef comps s = table (s .definitions =? 0 ⇒ [] ∣ otherwise (box CDEF (cdefContent comps s)))

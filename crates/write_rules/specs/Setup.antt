@@ -32,12 +32,12 @@ abbrev pub varies : ℕ
 varies = 255
 
 -- the bits of component c are not those of component 0
-abbrev pub other : List ℕ → ℕ → Test
-other comps c = precision comps c ≠? precision comps 0
+abbrev pub otherBits : List ℕ → ℕ → Test
+otherBits comps c = precision comps c ≠? precision comps 0
 
 -- I.5.3.1: what all components have, or 255. Difference 23: signs that differ are not compared.
 unfoldable pub BPC : List ℕ → ℕ → ℕ
-BPC comps count = table (some (other comps) count ⇒ varies ∣ otherwise (BPCi comps 0))
+BPC comps count = table (some (otherBits comps) count ⇒ varies ∣ otherwise (BPCi comps 0))
 
 -- the compression is JPEG 2000's
 abbrev pub C : ℕ
@@ -86,9 +86,9 @@ unfoldable pub colours : ℕ → ℕ
 colours enumcs = table (enumcs =? sRGB or enumcs =? sYCC ⇒ 3 ∣ enumcs =? greyscale ⇒ 1 ∣ otherwise 0)
 
 -- the count of marked components among the first n
-unfoldable pub marks : List ℕ → ℕ → ℕ
-marks comps zero = 0
-marks comps (suc n) = table (mark comps n ≠? 0 ⇒ suc (marks comps n) ∣ otherwise (marks comps n))
+unfoldable pub markCount : List ℕ → ℕ → ℕ
+markCount comps zero = 0
+markCount comps (suc n) = table (mark comps n ≠? 0 ⇒ suc (markCount comps n) ∣ otherwise (markCount comps n))
 
 -- the first component that is marked
 abbrev pub opacity : List ℕ → ℕ → ℕ
@@ -99,7 +99,7 @@ opacity comps count = lowest (λ c. mark comps c ≠? 0) count
 unfoldable pub N : List ℕ → ℕ → ℕ → ℕ
 N comps count many =
     table
-    (marks comps count ≠? 1 ⇒ 0
+    (markCount comps count ≠? 1 ⇒ 0
     ∣ many =? 0 ⇒ 0
     ∣ opacity comps count <? many ⇒ 0
     ∣ otherwise count)

@@ -5,7 +5,7 @@ ghost use Rattle.box_number.specs.Table.{_≠?_, otherwise, _⇒_∣_, holds, t
 ghost use Rattle.box_number.proofs.Rows.{Says};
 ghost use Rattle.box_number.specs.Lowest.{lowest};
 ghost use Rattle.write_rules.specs.Request.{asked, mark};
-ghost use Rattle.write_rules.specs.Setup.{other, BPC, METH, EnumCS, colours, marks, opacity, N, ill, setUp};
+ghost use Rattle.write_rules.specs.Setup.{otherBits, BPC, METH, EnumCS, colours, markCount, opacity, N, ill, setUp};
 use read_record::ALPHA;
 use read_record::COMPONENT_NUMBERS;
 use read_record::PREC;
@@ -63,7 +63,7 @@ fn first_ill(comps: &[u32], count: u32) -> u32
 
 // The first component that has not as many bits as component 0; the count where there is none.
 fn first_other(comps: &[u32], count: u32) -> u32
-    ensures { λ r. ⌜ r ≡ lowest (other (now (comps .entry))) count ⌝ }
+    ensures { λ r. ⌜ r ≡ lowest (otherBits (now (comps .entry))) count ⌝ }
 {
     let bits = read_record::component(comps, 0, PREC);
     let mut c: u32 = 0;
@@ -126,7 +126,7 @@ fn colour_count(enumcs: u32) -> u32
 
 // The count of marked components.
 fn mark_count(comps: &[u32], count: u32) -> u32
-    ensures { λ r. ⌜ r ≡ marks (now (comps .entry)) count ⌝ }
+    ensures { λ r. ⌜ r ≡ markCount (now (comps .entry)) count ⌝ }
 {
     let mut marked: u32 = 0;
     let mut c: u32 = 0;

@@ -6,7 +6,7 @@ use mathlib.Core.Path.{ap, _∙_}
 use Rattle.box_number.proofs.Rows.{row}
 use Rattle.box_number.specs.Number.{placed}
 use Rattle.write_rules.specs.Setup.{definition}
-use Rattle.write_rules.specs.Cdef.{definitionBytes}
+use Rattle.write_rules.specs.Cdef.{cdefEntry}
 use borrow.Author.Needs.{needs}
 use Rattle.write_boxes.proofs.define.Statement.{statement}
 use Rattle.write_boxes.proofs.define.Tie as tie
@@ -25,7 +25,7 @@ unfolding definition
 returns c =
     let a = c .before .before .before .before .before .before .before .args in
     let e = c .before .before .put-definition .ensures in
-    (e .0, e .1 ∙ ap (λ x. placed (a .d .now) (a .at) (definitionBytes x)) (row 0 _ (omega arith) refl))
+    (e .0, e .1 ∙ ap (λ x. placed (a .d .now) (a .at) (cdefEntry x)) (row 0 _ (omega arith) refl))
 
 component-requires : tie.Need-component-requires
 component-requires c κs = tt
@@ -41,7 +41,7 @@ unfolding definition
 returns-2 c =
     let a = c .before .before .before .before .before .before .before .before .before .args in
     let e = c .before .before .put-definition2 .ensures in
-    (e .0, e .1 ∙ ap (λ x. placed (a .d .now) (a .at) (definitionBytes x)) (row 1 _ (omega arith) refl))
+    (e .0, e .1 ∙ ap (λ x. placed (a .d .now) (a .at) (cdefEntry x)) (row 1 _ (omega arith) refl))
 
 put-definition-requires-3 : tie.Need-put-definition-requires-3
 put-definition-requires-3 c κs = search needs
@@ -54,7 +54,7 @@ unfolding definition
 returns-3 c =
     let a = c .before .before .before .before .before .before .before .before .before .args in
     let e = c .before .before .put-definition3 .ensures in
-    (e .0, e .1 ∙ ap (λ x. placed (a .d .now) (a .at) (definitionBytes x)) (row 2 _ (omega arith) refl))
+    (e .0, e .1 ∙ ap (λ x. placed (a .d .now) (a .at) (cdefEntry x)) (row 2 _ (omega arith) refl))
 
 pub define-spec : {M : Type 1} → statement M
 define-spec =

@@ -7,9 +7,9 @@ use mathlib.Core.List.{List, _++_, append-assoc}
 use Rattle.box_number.specs.Number.{bytes, placed}
 use Rattle.box_number.proofs.Placing.{placed-none}
 use Rattle.box_kind.specs.declared.Jp2BoxType.the-variants.{CDEF}
-use Rattle.write_rules.proofs.Lengths.{length-header, length-definitions, length-cdefContent}
+use Rattle.write_rules.proofs.Lengths.{length-header, length-cdefEntries, length-cdefContent}
 use Rattle.write_rules.specs.Box.{boxHeader}
-use Rattle.write_rules.specs.Cdef.{definitions, cdef}
+use Rattle.write_rules.specs.Cdef.{cdefEntries, cdef}
 use Rattle.box_number.proofs.Pieces.{first, piece, whole}
 use Rattle.write_boxes.proofs.Pieces.{box-is, field}
 use Rattle.write_boxes.proofs.Lengths.{cdef-none, cdef-some, cdef-empty, cdef-full}
@@ -49,11 +49,11 @@ returns-2 c =
     let a = b .args in
     let d = a .d .now in
     let n = a .s .definitions in
-    let xs = definitions (a .comps .now) (a .s .colours) n in
+    let xs = cdefEntries (a .comps .now) (a .s .colours) n in
     let some = cdef-some (a .s) (omega arith) in
     let p0 = first d (a .at) (boxHeader CDEF (2 + 6 * n)) 8 (length-header CDEF (2 + 6 * n)) (c .before .before .before .before .before .before .before .before .before .before .put-header .ensures) in
     let p1 = field d (a .at) (boxHeader CDEF (2 + 6 * n)) 8 p0 2 n (omega (arith, b .pre .0)) (c .before .before .before .before .before .before .put .ensures) in
-    let p2 = piece d (a .at) (boxHeader CDEF (2 + 6 * n) ++ bytes 2 n) 10 p1 xs (6 * n) (length-definitions (a .comps .now) (a .s .colours) n) (omega (arith, b .pre .0)) (c .before .before .put-definitions .ensures) in
+    let p2 = piece d (a .at) (boxHeader CDEF (2 + 6 * n) ++ bytes 2 n) 10 p1 xs (6 * n) (length-cdefEntries (a .comps .now) (a .s .colours) n) (omega (arith, b .pre .0)) (c .before .before .put-definitions .ensures) in
     let w =
     whole d (a .at) (boxHeader CDEF (2 + 6 * n) ++ bytes 2 n ++ xs) (cdef (a .comps .now) (a .s)) (10 + 6 * n) p2
     (assoc (boxHeader CDEF (2 + 6 * n)) (bytes 2 n) xs ∙ box-is CDEF (bytes 2 n ++ xs) (sym (length-cdefContent (a .comps .now) (a .s))) ∙ cdef-full (a .s) (a .comps .now) (omega arith))

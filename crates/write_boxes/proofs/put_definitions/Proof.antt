@@ -7,18 +7,18 @@ use mathlib.Core.List.{List, _++_}
 use native.Mathlib.Numerals.{add-one}
 use Rattle.write_rules.specs.Box.{series}
 use Rattle.write_rules.specs.Setup.{definition}
-use Rattle.write_rules.specs.Cdef.{definitionBytes, definitions}
-use Rattle.write_rules.proofs.Lengths.{length-definition}
+use Rattle.write_rules.specs.Cdef.{cdefEntry, cdefEntries}
+use Rattle.write_rules.proofs.Lengths.{length-cdefEntry}
 use Rattle.box_number.proofs.Pieces.{Put, none, same, put-length, piece, whole}
 use Rattle.write_boxes.proofs.put_definitions.Statement.{statement}
 use Rattle.write_boxes.proofs.put_definitions.Tie as tie
 
-one-more : (comps : List ℕ) (colours c : ℕ) → definitions comps colours c ++ definitionBytes (definition comps colours c) ≡ definitions comps colours (c + 1)
+one-more : (comps : List ℕ) (colours c : ℕ) → cdefEntries comps colours c ++ cdefEntry (definition comps colours c) ≡ cdefEntries comps colours (c + 1)
 unfolding series
 one-more comps colours c = rw (add-one c)
 
 abbrev Inv-loop : tie.InvT-loop
-Inv-loop d₀ at comps colours n a₀ c₀ d a c = (c ≤ n) × Put d₀ at (definitions comps colours c) (6 * c) d a
+Inv-loop d₀ at comps colours n a₀ c₀ d a c = (c ≤ n) × Put d₀ at (cdefEntries comps colours c) (6 * c) d a
 
 abbrev μ-loop : tie.MeasureT-loop
 μ-loop d₀ at comps colours n a₀ c₀ d a c = n - c
@@ -41,13 +41,13 @@ loop-again c =
     let b = c .before .before .before .before .before .before .before .before in
     let a = b .args in
     let l = c .before .before .before .before .before .loop in
-    (omega arith, same (a .d .now) (a .at) (one-more (a .comps .now) (a .colours) (l .c)) (omega arith) (piece (a .d .now) (a .at) (definitions (a .comps .now) (a .colours) (l .c)) (6 * l .c) (l .inv .1) (definitionBytes (definition (a .comps .now) (a .colours) (l .c))) 6 (length-definition (definition (a .comps .now) (a .colours) (l .c))) (omega (arith, b .pre .0)) (c .before .before .define .ensures)))
+    (omega arith, same (a .d .now) (a .at) (one-more (a .comps .now) (a .colours) (l .c)) (omega arith) (piece (a .d .now) (a .at) (cdefEntries (a .comps .now) (a .colours) (l .c)) (6 * l .c) (l .inv .1) (cdefEntry (definition (a .comps .now) (a .colours) (l .c))) 6 (length-cdefEntry (definition (a .comps .now) (a .colours) (l .c))) (omega (arith, b .pre .0)) (c .before .before .define .ensures)))
 
 same-length : tie.Need-same-length Inv-loop μ-loop
 same-length c = let b = c .before .before .before .before in put-length (b .args .d .now) (b .args .at) (c .before .loop .inv .1) (omega (arith, b .pre .0))
 
 returns : tie.Need-returns Inv-loop μ-loop
-returns c = let a = c .before .before .before .before .args in let l = c .before .loop in let e : l .c ≡ a .n = omega arith in whole (a .d .now) (a .at) (definitions (a .comps .now) (a .colours) (a .n)) (definitions (a .comps .now) (a .colours) (a .n)) (6 * a .n) (same (a .d .now) (a .at) (ap (definitions (a .comps .now) (a .colours)) e) (ap (λ n. 6 * n) e) (l .inv .1)) refl
+returns c = let a = c .before .before .before .before .args in let l = c .before .loop in let e : l .c ≡ a .n = omega arith in whole (a .d .now) (a .at) (cdefEntries (a .comps .now) (a .colours) (a .n)) (cdefEntries (a .comps .now) (a .colours) (a .n)) (6 * a .n) (same (a .d .now) (a .at) (ap (cdefEntries (a .comps .now) (a .colours)) e) (ap (λ n. 6 * n) e) (l .inv .1)) refl
 
 pub put-definitions-spec : {M : Type 1} → statement M
 put-definitions-spec =

@@ -6,12 +6,12 @@ use mathlib.Core.Bool.{false}
 use borrow.Author.Count.{below-more}
 use Rattle.box_number.proofs.Rows.{Says}
 use Rattle.box_number.proofs.Indices.{none-is, lowest-first}
-use Rattle.write_rules.specs.Setup.{other}
+use Rattle.write_rules.specs.Setup.{otherBits}
 use Rattle.write_setup.proofs.first_other.Statement.{statement}
 use Rattle.write_setup.proofs.first_other.Tie as tie
 
 abbrev Inv-loop : tie.InvT-loop
-Inv-loop comps count bits c₀ c = (c ≤ count) × ((i : ℕ) → i < c → Says false (other comps i))
+Inv-loop comps count bits c₀ c = (c ≤ count) × ((i : ℕ) → i < c → Says false (otherBits comps i))
 
 abbrev μ-loop : tie.MeasureT-loop
 μ-loop comps count bits c₀ c = count - c
@@ -29,7 +29,7 @@ returns : tie.Need-returns Inv-loop μ-loop
 returns c =
     let a = c .before .before .before .before .before .before .args in
     let l = c .before .before .before .loop in
-    lowest-first (other (a .comps .now)) (l .c) (a .count) (l .inv .1) (λ z. omega arith) (omega arith)
+    lowest-first (otherBits (a .comps .now)) (l .c) (a .count) (l .inv .1) (λ z. omega arith) (omega arith)
 
 add-c : tie.Need-add-c Inv-loop μ-loop
 add-c c = omega arith
@@ -41,10 +41,10 @@ loop-again : tie.Need-loop-again Inv-loop μ-loop
 loop-again c =
     let a = c .before .before .before .before .before .before .args in
     let l = c .before .before .before .loop in
-    (omega arith, below-more (λ i. Says false (other (a .comps .now) i)) (l .c) (l .inv .1) (omega arith))
+    (omega arith, below-more (λ i. Says false (otherBits (a .comps .now) i)) (l .c) (l .inv .1) (omega arith))
 
 returns-2 : tie.Need-returns-2 Inv-loop μ-loop
-returns-2 c = let a = c .before .before .before .before .args in none-is (other (a .comps .now)) (a .count) (λ i h. c .before .loop .inv .1 i (omega arith))
+returns-2 c = let a = c .before .before .before .before .args in none-is (otherBits (a .comps .now)) (a .count) (λ i h. c .before .loop .inv .1 i (omega arith))
 
 pub first-other-spec : {M : Type 1} → statement M
 first-other-spec =

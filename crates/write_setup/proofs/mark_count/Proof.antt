@@ -4,20 +4,20 @@ use Prim.Native.Nat.{_-_, _≤_}
 use native.Mathlib.Omega.{arith}
 use native.Mathlib.Numerals.{add-one}
 use mathlib.Core.Path.{_≡_, refl, ap, _∙_}
-use Rattle.write_rules.specs.Setup.{marks}
+use Rattle.write_rules.specs.Setup.{markCount}
 use Rattle.write_setup.proofs.Marks.{once, marks-next}
 use Rattle.write_setup.proofs.mark_count.Statement.{statement}
 use Rattle.write_setup.proofs.mark_count.Tie as tie
 
 -- the count so far, which a component raises by no more than 1
 abbrev Inv-loop : tie.InvT-loop
-Inv-loop comps count marked₀ c₀ marked c = (c ≤ count) × (marked ≡ marks comps c) × (marked ≤ c)
+Inv-loop comps count marked₀ c₀ marked c = (c ≤ count) × (marked ≡ markCount comps c) × (marked ≤ c)
 
 abbrev μ-loop : tie.MeasureT-loop
 μ-loop comps count marked₀ c₀ marked c = count - c
 
 loop-holds : tie.Need-loop-holds Inv-loop μ-loop
-unfolding marks
+unfolding markCount
 loop-holds c = (omega arith, refl, omega arith)
 
 is-marked-requires : tie.Need-is-marked-requires Inv-loop μ-loop
@@ -43,7 +43,7 @@ loop-again c =
     )
 
 returns : tie.Need-returns Inv-loop μ-loop
-returns c = let a = c .before .before .before .args in let l = c .before .loop in let e : l .c ≡ a .count = omega arith in l .inv .1 ∙ ap (marks (a .comps .now)) e
+returns c = let a = c .before .before .before .args in let l = c .before .loop in let e : l .c ≡ a .count = omega arith in l .inv .1 ∙ ap (markCount (a .comps .now)) e
 
 pub mark-count-spec : {M : Type 1} → statement M
 mark-count-spec =

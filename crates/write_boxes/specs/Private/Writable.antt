@@ -8,7 +8,7 @@ use Rattle.write_rules.specs.declared.Fields.{Fields}
 use Rattle.write_rules.specs.Setup.{ill}
 
 -- 31 and 32
-pub record Sound (comps : List ℕ) (s : Fields) : Type 0 where
+pub record Writable (comps : List ℕ) (s : Fields) : Type 0 where
   pub few : s .numcomps ≤ mostComponents
   pub well : (c : ℕ) → c < s .numcomps → Says false (ill comps c)
   pub defined : s .definitions ≤ mostComponents
