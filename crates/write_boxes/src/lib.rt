@@ -83,6 +83,15 @@ fn put(d: &mut [u8], at: usize, nb: usize, value: u32) -> usize
     at + nb
 }
 
+// Puts two numbers of nb bytes each, one after the other: the place after them.
+fn put_two(d: &mut [u8], at: usize, nb: usize, first: u32, second: u32) -> usize
+    requires { ⌜ (nb ≤ 4) × (at + (nb + nb) ≤ length (now d)) ⌝ }
+    ensures { λ r. ⌜ (r ≡ at + (nb + nb)) × (now (d .exit) ≡ placed (now (d .entry)) at (bytes nb first ++ bytes nb second)) ⌝ }
+{
+    let a = put(d, at, nb, first);
+    put(d, a, nb, second)
+}
+
 // The header of a box whose content has the given length: the place after it.
 fn put_header(d: &mut [u8], at: usize, kind: Jp2BoxType, content: u32) -> usize
     requires { ⌜ (content ≤ 4294967287) × (at + 8 ≤ length (now d)) ⌝ }
@@ -121,9 +130,8 @@ fn opj_jp2_write_ftyp(d: &mut [u8], at: usize) -> usize
     ensures { λ r. ⌜ (r ≡ at + 20) × (now (d .exit) ≡ placed (now (d .entry)) at fileType) ⌝ }
 {
     let a = put_header(d, at, Jp2BoxType::FTYP, 12);
-    let b = put(d, a, 4, BRAND);
-    let c = put(d, b, 4, VERSION);
-    put(d, c, 4, BRAND)
+    let b = put_two(d, a, 4, BRAND, VERSION);
+    put(d, b, 4, BRAND)
 }
 
 fn opj_jp2_write_ihdr(d: &mut [u8], at: usize, s: Fields) -> usize
@@ -131,13 +139,10 @@ fn opj_jp2_write_ihdr(d: &mut [u8], at: usize, s: Fields) -> usize
     ensures { λ r. ⌜ (r ≡ at + 22) × (now (d .exit) ≡ placed (now (d .entry)) at (ihdr s)) ⌝ }
 {
     let a0 = put_header(d, at, Jp2BoxType::IHDR, 14);
-    let a1 = put(d, a0, 4, s.h);
-    let a2 = put(d, a1, 4, s.w);
-    let a3 = put(d, a2, 2, s.numcomps);
-    let a4 = put(d, a3, 1, s.bpc);
-    let a5 = put(d, a4, 1, JPEG_2000);
-    let a6 = put(d, a5, 1, SPACE_KNOWN);
-    put(d, a6, 1, NO_RIGHTS)
+    let a1 = put_two(d, a0, 4, s.h, s.w);
+    let a2 = put(d, a1, 2, s.numcomps);
+    let a3 = put_two(d, a2, 1, s.bpc, JPEG_2000);
+    put_two(d, a3, 1, SPACE_KNOWN, NO_RIGHTS)
 }
 
 // Bits less 1 of component c, and its sign as the top bit.
@@ -207,9 +212,8 @@ fn opj_jp2_write_colr(d: &mut [u8], at: usize, s: Fields, profile: &[u8]) -> usi
         colr_length(s, profile.len() as u32) - 8,
     );
     let a1 = put(d, a0, 1, s.meth);
-    let a2 = put(d, a1, 1, PRECEDENCE);
-    let a3 = put(d, a2, 1, APPROXIMATION);
-    put_specification(d, a3, s, profile)
+    let a2 = put_two(d, a1, 1, PRECEDENCE, APPROXIMATION);
+    put_specification(d, a2, s, profile)
 }
 
 // A definition: its channel, type and association.
@@ -217,9 +221,8 @@ fn put_definition(d: &mut [u8], at: usize, channel: u32, typ: u32, asoc: u32) ->
     requires { ⌜ at + 6 ≤ length (now d) ⌝ }
     ensures { λ r. ⌜ (r ≡ at + 6) × (now (d .exit) ≡ placed (now (d .entry)) at (bytes 2 channel ++ bytes 2 typ ++ bytes 2 asoc)) ⌝ }
 {
-    let a = put(d, at, 2, channel);
-    let b = put(d, a, 2, typ);
-    put(d, b, 2, asoc)
+    let a = put_two(d, at, 2, channel, typ);
+    put(d, a, 2, asoc)
 }
 
 // The definition of channel c: a colour, the opacity, or a channel of which nothing is said.

@@ -3,6 +3,7 @@
 use native.Mathlib.Omega.{arith}
 use mathlib.Core.Path.{refl}
 use mathlib.Core.List.{_++_}
+use lib.ListN.{length-append}
 use Rattle.box_number.specs.Number.{bytes}
 use Rattle.box_number.proofs.Bytes.{length-bytes}
 use Rattle.box_number.proofs.Pieces.{first, whole}
@@ -11,28 +12,24 @@ use borrow.Author.Needs.{needs}
 use Rattle.write_boxes.proofs.put_definition.Statement.{statement}
 use Rattle.write_boxes.proofs.put_definition.Tie as tie
 
+put-two-requires : tie.Need-put-two-requires
+put-two-requires c κs = search needs
+
 put-requires : tie.Need-put-requires
 put-requires c κs = search needs
-
-put-requires-2 : tie.Need-put-requires-2
-put-requires-2 c κs = search needs
-
-put-requires-3 : tie.Need-put-requires-3
-put-requires-3 c κs = search needs
 
 same-length : tie.Need-same-length
 same-length c = search needs
 
 returns : tie.Need-returns
 returns c =
-    let b = c .before .before .before .before .before .before .before .before .before .before .before .before .before in
-    let d = b .args .d .now in
-    let at = b .args .at in
-    let p0 = first d at (bytes 2 (b .args .channel)) 2 (length-bytes 2 (b .args .channel)) (c .before .before .before .before .before .before .before .before .before .before .put .ensures) in
-    let p1 = field d at (bytes 2 (b .args .channel)) 2 p0 2 (b .args .typ) (omega arith) (c .before .before .before .before .before .before .put2 .ensures) in
-    let p2 = field d at (bytes 2 (b .args .channel) ++ bytes 2 (b .args .typ)) 4 p1 2 (b .args .asoc) (omega arith) (c .before .before .put3 .ensures) in
-    whole d at (bytes 2 (b .args .channel) ++ bytes 2 (b .args .typ) ++ bytes 2 (b .args .asoc)) (bytes 2 (b .args .channel) ++ bytes 2 (b .args .typ) ++ bytes 2 (b .args .asoc)) 6 p2 (refl)
+    let b = c .before .before .before .before .before .before .before .before .before in
+    let a = b .args in
+    let d = a .d .now in
+    let x = bytes 2 (a .channel) ++ bytes 2 (a .typ) in
+    let p0 = first d (a .at) x 4 (simp (length-append, length-bytes)) (c .before .before .before .before .before .before .put-two .ensures) in
+    let p1 = field d (a .at) x 4 p0 2 (a .asoc) (omega arith) (c .before .before .put .ensures) in
+    whole d (a .at) (x ++ bytes 2 (a .asoc)) (x ++ bytes 2 (a .asoc)) 6 p1 refl
 
 pub put-definition-spec : {M : Type 1} → statement M
-put-definition-spec =
-    tie.close (tie.spec put-requires put-requires-2 put-requires-3 same-length returns)
+put-definition-spec = tie.close (tie.spec put-two-requires put-requires same-length returns)
