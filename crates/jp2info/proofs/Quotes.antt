@@ -32,7 +32,7 @@ unfolding quotes
 quotes-none zero json s h = refl
 quotes-none (suc fuel) json s h = sym (row 0 _ h refl)
 
--- what is left of the text, quoted, comes to what the whole of it comes to
+-- what is left of the text, quoted from here on, gives the same as the whole text
 pub record Going (d₀ : List ℕ) (at : ℕ) (whole : List ℕ) (json : Bool) (d : List ℕ) (k : ℕ) (rest : List ℕ) : Type 0 where
   pub fuel : ℕ
   pub enough : length rest ≤ fuel

@@ -1,4 +1,4 @@
--- A text from outside, so that none of its bytes does anything to a terminal or breaks a line of JSON.
+-- A text from outside the program, shown so that no byte of it controls a terminal or breaks a line of JSON.
 use Prim.Native.Nat.{ℕ, zero, suc, _+_, _/_, _%_}
 use mathlib.Core.Bool.{Bool}
 use mathlib.Core.List.{List, [], _∷_, _++_}

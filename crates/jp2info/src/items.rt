@@ -34,7 +34,7 @@ pub fn show(json: bool, item: Item, i: usize, c: &[u8]) {
     }
 }
 
-// What stands before item i of a list of JSON.
+// The comma before item i of a list of JSON.
 pub fn comma(json: bool, i: usize) {
     if i != 0 {
         say::text(json, b"|,");

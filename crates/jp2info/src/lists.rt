@@ -6,7 +6,7 @@ use crate::say;
 use read_record::Palette;
 use read_record::Span;
 
-// A list with what stands before it. People are told nothing of an empty one.
+// A list with the text before it. For people an empty list is not printed.
 pub fn list(json: bool, head: &[u8], item: Item, file: &[u8], list: Span) {
     begin(json, head, list.count);
     let c = box_number::part(file, list.place, file.len());
@@ -63,7 +63,7 @@ fn narrow(columns: u32) -> u8 {
     if columns < 256 { columns as u8 } else { 255 }
 }
 
-// n rows of so many bytes each.
+// n rows of a palette.
 fn rows(json: bool, depths: &[u8], list: &[u8], size: usize, n: usize) {
     let mut rest = list;
     let mut i = 0;
@@ -75,7 +75,7 @@ fn rows(json: bool, depths: &[u8], list: &[u8], size: usize, n: usize) {
     }
 }
 
-// Row i, which stands in front of the list.
+// Row i, with which the list starts.
 fn row(json: bool, i: usize, depths: &[u8], list: &[u8]) {
     items::comma(json, i);
     say::field(json, b"\n    entry #: |[", i);

@@ -19,7 +19,7 @@ pub fn load(name: &[u8], room: &mut [u8]) -> Loaded {
     loaded
 }
 
-// After the last byte one more read tells the file's end from a failure, as that of a folder, and from a file without room.
+// After the last byte one more read distinguishes the file's end from a failure, as with a folder, and from a file that is too large.
 fn read(fd: i32, name: &[u8], room: &mut [u8]) -> Loaded {
     let n = io::read_full(fd, room);
     let mut more = [0u8; 1];

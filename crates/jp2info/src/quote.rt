@@ -8,7 +8,7 @@ use crate::utf8::character;
 use text::text;
 
 // Characters of 2 or more bytes and printing ASCII come as they are, any other byte as \x1b for people and as \u001b in JSON.
-// A backslash, in JSON also a quotation mark, stands after a backslash.
+// A backslash, and in JSON a quotation mark, gets a backslash before it.
 pub fn quote(d: &mut [u8], at: usize, json: bool, s: &[u8]) -> usize
     ensures { λ r. ⌜ (r ≡ after (now (d .entry)) at (quoted json (now (s .entry)))) × (now (d .exit) ≡ put (now (d .entry)) at (quoted json (now (s .entry)))) ⌝ }
 {

@@ -1,5 +1,5 @@
 // What is said of a file: for people its name, then a field a line, a line's end before the next line; or one line of JSON.
-// In JSON a box that the record has nothing of is null, and a list without items is empty. Numbers are as they stand in the file.
+// In JSON a box that the record has nothing of is null, and a list without items is empty. Numbers are as in the file.
 use crate::items;
 use crate::items::Item;
 use crate::lists;
@@ -57,7 +57,7 @@ fn codestream(json: bool, answer: FileAnswer) {
     );
 }
 
-// Why a file is turned down, from 0: the numbers 1 to 24 of document 01's table.
+// Why a file is refused, from 0: the numbers 1 to 24 of document 01's table.
 fn refused(json: bool, n: u32, place: u32) {
     field(
         json,
@@ -216,7 +216,7 @@ fn content(json: bool, colour: Colour, icc: Span) {
     }
 }
 
-// People are told the size first.
+// For people the size comes first.
 fn profile(json: bool, place: usize, size: usize) {
     field(
         json,

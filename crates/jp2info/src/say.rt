@@ -1,4 +1,4 @@
-// Pieces of output, each written at once. A piece is one text with two forms: what people are told, a bar, and what JSON has.
+// Pieces of output, each written at once. A piece is one text with two forms: the one for people, a bar, and the one for JSON.
 use crate::quote;
 use libc::STDOUT_FILENO;
 
@@ -20,7 +20,7 @@ pub fn end(json: bool) {
     }
 }
 
-// A piece in which # stands for a number.
+// A piece in which # is replaced by a number.
 pub fn field(json: bool, piece: &[u8], n: usize) {
     filled(form(json, piece), n, 0);
 }
@@ -73,7 +73,7 @@ pub fn join(json: bool, numbers: &[u32]) {
     io::write_all(STDOUT_FILENO, box_number::part(&d, 0, n));
 }
 
-// What stands between two numbers.
+// The byte between two numbers.
 fn between(json: bool) -> u8 {
     if json { b',' } else { b' ' }
 }

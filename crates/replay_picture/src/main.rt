@@ -10,7 +10,7 @@ mod compare;
 mod list;
 mod put;
 
-// The most elements of a list that is handed in, and of a destination for records.
+// The most elements of a given list, and of a destination for records.
 const MOST: usize = 128;
 
 // The tally counts finished pictures at 0, the refusal n at n, and pictures that differ from the list at DIFFERING of compare.

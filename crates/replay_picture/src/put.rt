@@ -1,7 +1,7 @@
-// What stands in the lists that are lent: the listed numbers, and behind them a pattern, which hardly a finished picture has.
+// The content of the lent lists: the listed numbers, and behind them a pattern that a finished picture hardly has.
 use crate::list;
 
-// What stands in place i. No two numbers of the pattern next to each other are the same.
+// The content at place i. No two neighbours in the pattern are the same.
 pub fn expected(listed: &[u8], i: usize) -> u32 {
     if i < listed.len() / 4 {
         list::number(listed, i)

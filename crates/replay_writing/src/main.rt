@@ -152,7 +152,7 @@ fn fill(d: &mut [u8]) {
     }
 }
 
-// What stands at place i of the destination before.
+// The content at place i of the destination before writing.
 fn pattern(i: usize) -> u8 {
     255 - (i % 251) as u8
 }
@@ -246,7 +246,7 @@ fn first_byte(bytes: &[u8], d: &[u8]) -> usize {
     i
 }
 
-// What has to stand at place i of the destination: a written byte, or what stood there before.
+// The content that place i of the destination has to have: a written byte, or the one before writing.
 fn wanted(bytes: &[u8], i: usize) -> u8 {
     if i < bytes.len() {
         bytes[i]

@@ -14,7 +14,7 @@ const MOST: u32 = 0xffffffff;
 const FAR: usize = 0xffff_ffff_ffff_ffff;
 
 pub fn all() {
-    // a header that is cut is told before a high word, and before a length of 0 inside jp2h
+    // a cut header is answered before a high word, and before a length of 0 inside jp2h
     each_beginning(b"\x00\x00\x00\x01jp2c\x00\x00\x00\x01\x00\x00\x00\x10");
     each_beginning(b"\x00\x00\x00\x00jp2c");
     contents();

@@ -80,7 +80,7 @@ pub fn name(ty: Jp2BoxType) {
     text(text::line(names, b'\n', place(ty)));
 }
 
-// Where the name of a kind stands among the names.
+// The position of a kind's name among the names.
 fn place(ty: Jp2BoxType) -> usize {
     match ty {
         Jp2BoxType::None => 0,

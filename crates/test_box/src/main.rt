@@ -1,4 +1,4 @@
-// Edge cases of box kinds and box headers, a line each: what was asked = what came.
+// Edge cases of box kinds and box headers, a line each: the call = its result.
 mod headers;
 mod kinds;
 mod say;

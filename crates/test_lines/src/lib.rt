@@ -5,7 +5,7 @@ ghost use Rattle.text.specs.Text.{filled};
 ghost use Rattle.test_lines.specs.Lines.{printed, counted};
 use libc::STDOUT_FILENO;
 
-// Prints a shape in which each # stands for the next of the numbers. Answers how many bytes that is: 4096 at most, the rest is left out.
+// Prints a shape in which each # is replaced by the next of the numbers. Answers how many bytes that is: 4096 at most, the rest is left out.
 pub fn say(shape: &[u8], numbers: &[usize]) -> usize
     ensures { λ r. ⌜ r ≡ printed (filled (now (shape .entry)) (now (numbers .entry))) ⌝ }
 {

@@ -1,4 +1,4 @@
-// The boxes of the marked cases, written into a list that is lent and holds only zeros.
+// The boxes of the marked cases, written into a lent list of zeros.
 pub const IHDR: u32 = 0x69686472;
 
 pub const JP2C: u32 = 0x6a703263;

@@ -1,4 +1,4 @@
-// Document 01's marked cases on reading, a line each: the case = what came.
+// Document 01's marked cases on reading, a line each: the case = the answer.
 mod files;
 mod lend;
 mod say;
@@ -28,7 +28,7 @@ fn palettes() {
     palette(b"width byte 0x25, 3 bytes", 1, 0x25, 3);
 }
 
-// jp2h holds an ihdr of so many bytes, and a colr.
+// jp2h has an ihdr of the given length, and a colr.
 fn image(case: &[u8], size: u8, count: u32) {
     let mut d = [0u8; 1107];
     let n = files::picture(&mut d, 23 + size as u32);
@@ -37,7 +37,7 @@ fn image(case: &[u8], size: u8, count: u32) {
     say::came(case, box_number::part(&d, 0, n));
 }
 
-// jp2h holds an ihdr, and a palette of one column whose entries have so many bytes in all.
+// jp2h has an ihdr, and a palette of one column whose entries have `bytes` bytes in all.
 fn palette(case: &[u8], entries: u32, width: u32, bytes: u16) {
     let mut d = [0u8; 1107];
     let n = files::picture(&mut d, 42 + bytes as u32);
@@ -46,7 +46,7 @@ fn palette(case: &[u8], entries: u32, width: u32, bytes: u16) {
     say::came(case, box_number::part(&d, 0, n));
 }
 
-// jp2h holds an ihdr whose length is 0.
+// jp2h has an ihdr whose length is 0.
 fn child_length_0() {
     let mut d = [0u8; 1107];
     let n = files::picture(&mut d, 16);
@@ -54,7 +54,7 @@ fn child_length_0() {
     say::came(b"child length 0", box_number::part(&d, 0, n));
 }
 
-// jp2h holds a box of an extended length, which has no content.
+// jp2h has a box of an extended length, which has no content.
 fn child_extended(case: &[u8], ty: u32, length: u32) {
     let mut d = [0u8; 1107];
     let n = files::picture(&mut d, 24);

@@ -1,4 +1,4 @@
-// A case, and what reading its file came to.
+// A case, and the answer of reading its file.
 use libc::STDOUT_FILENO;
 use read_file::FileAnswer;
 use test_lines::say;
@@ -11,7 +11,7 @@ pub fn came(case: &[u8], file: &[u8]) {
     lent(file);
 }
 
-// The same over a lent record, and the width that stands in it afterwards.
+// The same over a lent record, and the width in the record afterwards.
 fn lent(file: &[u8]) {
     let r = crate::lend::lend_header_procedure(file, read_record::opj_jp2_create());
     let a = r.answer;

@@ -1,4 +1,4 @@
-// Edge cases of numbers of 1 to 4 bytes and of parts of a slice, a line each: what was asked = what came.
+// Edge cases of numbers of 1 to 4 bytes and of parts of a slice, a line each: the call = its result.
 use libc::STDOUT_FILENO;
 use test_lines::bytes;
 use test_lines::say;

@@ -53,7 +53,7 @@ fn comp(name: u32) -> Comp {
     }
 }
 
-// Runs so many definitions over A, B, C and D, of which n are in the picture.
+// Runs `count` definitions over A, B, C and D, of which n are in the picture.
 fn run(case: &[u8], f: &[u8], count: usize, n: u32) {
     let a = comp(0);
     let b = comp(1);

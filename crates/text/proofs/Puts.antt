@@ -98,7 +98,7 @@ module _ (d : List ℕ) (at : ℕ) where
       let e : take (length d - at) (b ∷ []) ≡ b ∷ [] = take-all (length d - at) (b ∷ []) (omega arith) in
       rw (e, add-one at, append-assoc) (refl, set-split d at b h)
 
--- in a loop: what is left of the text comes to what the whole of it comes to
+-- in a loop: what is left of the text, put from here on, gives the same as the whole text
 pub record Left (d₀ : List ℕ) (at : ℕ) (whole d : List ℕ) (k : ℕ) (rest : List ℕ) : Type 0 where
   pub long : length d ≡ length d₀
   pub place : after d k rest ≡ after d₀ at whole

@@ -21,11 +21,11 @@ digits (suc fuel) n = table (n <? 10 ⇒ [] ∣ otherwise (digits fuel (n / 10))
 unfoldable pub decimal : ℕ → List ℕ
 decimal n = digits (suc n) n
 
--- #, the byte of a shape that stands for a number
+-- #, the byte of a shape that is replaced by a number
 abbrev pub mark : ℕ
 mark = 35
 
--- a shape in which each # stands for the next of some numbers; where none is left, it stands for itself
+-- a shape in which each # is replaced by the next of some numbers; where none is left, # is kept
 unfoldable pub filled : List ℕ → List ℕ → List ℕ
 filled [] numbers = []
 filled (b ∷ shape) [] = b ∷ filled shape []

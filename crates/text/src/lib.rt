@@ -39,10 +39,10 @@ fn number(d: &mut [u8], at: usize, n: usize) -> usize
     text(d, at, &digits[..k])
 }
 
-// The byte of a shape that stands for a number.
+// The byte of a shape that is replaced by a number.
 const MARK: u8 = b'#';
 
-// A shape in which each # stands for the next of the numbers; where none is left, it stands for itself.
+// A shape in which each # is replaced by the next of the numbers; where none is left, # is kept.
 pub fn fill(d: &mut [u8], at: usize, shape: &[u8], numbers: &[usize]) -> usize
     ensures { λ r. ⌜ (r ≡ after (now (d .entry)) at (filled (now (shape .entry)) (now (numbers .entry)))) × (now (d .exit) ≡ put (now (d .entry)) at (filled (now (shape .entry)) (now (numbers .entry)))) ⌝ }
 {

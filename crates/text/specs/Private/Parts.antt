@@ -13,7 +13,7 @@ letter b (n ∷ numbers) = table (b =? mark ⇒ decimal n ∣ otherwise (b ∷ [
 unfoldable pub marks : ℕ → ℕ → ℕ
 marks b c = table (b =? c ⇒ 1 ∣ otherwise 0)
 
--- what stands before number i
+-- the text before number i
 abbrev pub gap : ℕ → List ℕ → List ℕ
 gap zero between = []
 gap (suc i) between = between
