@@ -1,2 +1,3 @@
+pub mod Rows
 pub mod Marks
-pub mod Held
+pub mod Checking

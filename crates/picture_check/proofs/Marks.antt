@@ -14,7 +14,7 @@ use Rattle.read_record.specs.declared.Span.{Span}
 use Rattle.read_channels.specs.Cdef.{Cn}
 use Rattle.box_number.specs.Lowest.{lowest}
 use Rattle.picture_rules.specs.Check.{undefined}
-use Rattle.picture_check.specs.Parts.{mark, unmarked}
+use Rattle.picture_check.specs.Private.Parts.{mark, unmarked}
 use Rattle.box_number.proofs.Answers.{same}
 use Rattle.box_number.proofs.Indices.{lowest-most, lowest-same}
 

@@ -3,12 +3,10 @@
 use Prim.Native.Nat.{ℕ, _*_, _≤_}
 use native.Mathlib.Omega.{arith}
 use mathlib.Core.Path.{_≡_, refl, sym, ap, _∙_}
-use mathlib.Core.Bool.{false}
-use mathlib.Core.List.{List, _++_}
+use mathlib.Core.List.{List}
 use lib.IntN.{ℤ}
 use lib.ListN.{length, length-append}
-use Rattle.box_number.specs.Table.{_=?_, _and_}
-use Rattle.box_number.proofs.Rows.{Says}
+use Rattle.box_number.specs.Table.{_and_}
 use Rattle.read_record.specs.declared.Jp2.{Jp2}
 use Rattle.read_channels.specs.Definitions.{definitions}
 use Rattle.picture_rules.specs.Order.{arranged}
@@ -17,12 +15,11 @@ use Rattle.picture_order.specs.Flat.{reordered}
 use Rattle.picture_order.proofs.Fronts.{reordered-front}
 use Rattle.picture_rules.specs.Image.{Image}
 use Rattle.picture_rules.specs.Channels.{channels}
-use Rattle.picture_rules.specs.Finish.{Finishing, finished, declined, outsideFile, expanded, picture}
-use Rattle.box_number.proofs.Indices.{decide}
+use Rattle.picture_rules.specs.Finish.{Finishing, finished, declined, expanded, picture}
 use Rattle.picture_finish.specs.declared.Finished.{Finished}
 use Rattle.picture_finish.specs.declared.Finished.the-variants.{Planes, Refused}
-use Rattle.picture_finish.specs.Answers.{answered, fronted, recordsAfter, samplesAfter}
-use Rattle.picture_finish.specs.Parts.{unordered, Done}
+use Rattle.picture_finish.specs.Answers.{answered, fronted, recordsAfter, samplesAfter, Done}
+use Rattle.picture_finish.specs.Private.Parts.{unordered}
 use Rattle.picture_finish.proofs.Rooms.{refused-is}
 
 -- a refusal leaves both destinations
@@ -32,10 +29,6 @@ declined-done x records planes e = record { answer = rw e refl; numbers = rw e r
 
 pub refused-done : (x : Finishing) {r : Finished} {number place : ℕ} (records : List ℕ) (planes : List ℤ) → r ≡ answered x → r ≡ Refused number place → Done x (Refused number place) records records planes planes
 refused-done x records planes e d = declined-done x records planes (refused-is x (sym d ∙ e))
-
--- the list of definitions, where there is one, lies in the file
-pub definitions-few : (f : List ℕ) (m : Jp2) → Says false (outsideFile f m) → m .lists .cdef .count ≤ 65535
-definitions-few f m file = decide (m .lists .cdef .count =? 0) (λ z. omega arith) (λ some. file .1 .1 some .0)
 
 module _ (f : List ℕ) (m : Jp2) (i : Image) where
   -- packed channels that are put in order are the finished picture

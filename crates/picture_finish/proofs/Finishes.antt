@@ -1,117 +1,123 @@
--- Finishing as a whole: 29 first, then the checks, then the rest of the table.
+-- Finishing as a whole: what the answer of the checks says of it.
 -- Assumes nothing.
 use Prim.Native.Nat.{ℕ, _≤_, _<_}
-use mathlib.Core.Path.{_≡_, refl, sym, ap, _∙_}
+use mathlib.Core.Path.{_≡_, refl, sym}
 use mathlib.Core.Bool.{Bool, true, false}
 use mathlib.Core.List.{List}
-use lib.IntN.{ℤ}
-use Rattle.box_number.specs.Table.{_<?_, _or_, _and_, holds, table}
-use Rattle.box_number.proofs.Rows.{Says, not-both, row, each}
+use Rattle.box_number.specs.Table.{_or_, _and_, holds}
+use Rattle.box_number.specs.Lowest.{lowest}
+use Rattle.box_number.proofs.Rows.{Says, row, each}
+use Rattle.box_number.proofs.Indices.{lowest-none}
 use Rattle.read_record.specs.declared.Jp2.{Jp2}
 use Rattle.picture_rules.specs.Image.{Image}
-use Rattle.box_number.specs.Lowest.{lowest}
+use Rattle.picture_rules.specs.Handed.{Settings, Handed}
 use Rattle.picture_rules.specs.Channels.{mapped, channels, corrected}
-use Rattle.picture_rules.specs.Check.{misnamed, undefined, mismapped}
-use Rattle.picture_rules.specs.Finish.{Finishing, declined, outsideLists, outsideFile, counted, fitted, coloured, finish}
-use Rattle.box_number.proofs.Indices.{lowest-none}
+use Rattle.picture_rules.specs.Check.{misnamed, undefined, mismapped, dataless}
+use Rattle.picture_rules.specs.Finish.{Finishing, declined, outsideLists, outsideFile, counted, fitted, colourChecks, checks, finish}
 use Rattle.picture_check.specs.declared.Checked.{Checked}
 use Rattle.picture_check.specs.declared.Checked.the-variants.{Passed, Refused}
 use Rattle.picture_check.specs.Checked.{checked}
-use Rattle.picture_finish.specs.declared.Finished.{Finished}
-use Rattle.picture_finish.specs.Answers.{answered, recordsAfter, samplesAfter}
-use Rattle.picture_finish.specs.Parts.{Tested, Done}
-
--- what the checks tell of the table of finishing
-abbrev Told : List ℕ → Jp2 → Image → Finishing → ℕ → ℕ → Checked → Type 0
-Told f m i x records samples (Passed correct) = (x ≡ fitted f m i records samples) × ((c : ℕ) → c < m .lists .cmap .count → Says false (mismapped f (m .lists .cmap) (i .count) c)) × (correct ≡ holds (mapped m and corrected f (m .lists .cmap) (i .count)))
-Told f m i x records samples (Refused number place) = x ≡ declined number place
-
-module _ (f : List ℕ) (m : Jp2) (i : Image) (records samples : ℕ) where
-  abbrev x : Finishing
-  x = coloured f m i records samples
-
-  abbrev wrong : ℕ
-  wrong = lowest (misnamed f (m .lists .cdef) (channels m (i .count))) (m .lists .cdef .count)
-
-  abbrev lacking : ℕ
-  lacking = lowest (undefined f (m .lists .cdef)) (channels m (i .count))
-
-  abbrev astray : ℕ
-  astray = lowest (mismapped f (m .lists .cmap) (i .count)) (m .lists .cmap .count)
-
-  told-25 : wrong < m .lists .cdef .count → x ≡ declined 25 wrong
-  unfolding coloured
-  told-25 h = sym (row 0 _ h refl)
-
-  told-26 : m .lists .cdef .count ≤ wrong → lacking < channels m (i .count) → x ≡ declined 26 lacking
-  unfolding coloured
-  told-26 named h = sym (row 1 _ (named, h) refl)
-
-  told-27 : m .lists .cdef .count ≤ wrong → channels m (i .count) ≤ lacking → astray < m .lists .cmap .count → x ≡ declined 27 astray
-  unfolding coloured
-  told-27 named defined h = sym (row 2 _ (named, (defined, h)) refl)
-
-  -- where the checks pass, what is left of the table
-  rest : m .lists .cdef .count ≤ wrong → channels m (i .count) ≤ lacking → m .lists .cmap .count ≤ astray → x ≡ fitted f m i records samples
-  unfolding coloured
-  rest named defined mapping = sym (row 3 _ (named, (defined, (mapping, tt))) refl)
-
-  pub checks-tell : i .count ≤ 16384 → Says false (outsideFile f m) → Told f m i x records samples (checked f m (i .count))
-  unfolding checked
-  checks-tell few file =
-      each (Told f m i x records samples) _ (
-        (λ h. absurd (not-both (16384 <? i .count or outsideFile f m) h (few, file))),
-        λ _. (
-          told-25,
-          λ named. (told-26 named, λ defined. (told-27 named defined, λ mapping. (rest named defined mapping, lowest-none _ _ mapping, refl))),
-        ),
-      )
-
-module _ (f : List ℕ) (m : Jp2) (ignore : ℕ) (i : Image) (records samples : ℕ) where
-  abbrev whole : Finishing
-  whole = finish f m ignore i records samples
-
-  pub finish-29 : Says true (outsideLists i or outsideFile f m) → whole ≡ declined 29 0
-  unfolding finish
-  finish-29 h = sym (row 0 _ h refl)
-
-  pub finish-on : Says false (outsideLists i) → Says false (outsideFile f m) → whole ≡ coloured f (counted ignore m) i records samples
-  unfolding finish
-  finish-on lists file = sym (row 1 _ ((lists, file), tt) refl)
+use Rattle.picture_finish.specs.Private.Parts.{Tested}
 
 -- without palette, mappings and definitions none lies outside the file
-pub counted-inside : (f : List ℕ) (m : Jp2) (ignore : ℕ) → Says false (outsideFile f m) → Says false (outsideFile f (counted ignore m))
+counted-inside : (f : List ℕ) (m : Jp2) (s : Settings) → Says false (outsideFile f m) → Says false (outsideFile f (counted s m))
 unfolding counted
-counted-inside f m ignore file = each (λ k. Says false (outsideFile f k)) _ ((λ _. file), λ _. ((λ h. absurd (h refl)), ((λ h. absurd (h refl)), λ h. absurd (h refl))))
+counted-inside f m s file = each (λ k. Says false (outsideFile f k)) _ ((λ _. file), λ _. ((λ h. absurd (h refl)), ((λ h. absurd (h refl)), λ h. absurd (h refl))))
 
--- the entry: 29 has passed, k is what the ignore flag leaves of the record, and the checks have answered for it
-module _ (f : List ℕ) (m : Jp2) (ignore : ℕ) (i : Image) (records samples : ℕ) (lists : Says false (outsideLists i)) (file : Says false (outsideFile f m)) {k : Jp2} (e : k ≡ counted ignore m) {r : Checked} (d : r ≡ checked f k (i .count)) where
-  inside : Says false (outsideFile f k)
-  inside = rw e (counted-inside f m ignore file)
+module _ (h : Handed) (m : Jp2) where
+  abbrev f : List ℕ
+  f = h .file
 
-  told : Told f k i (coloured f k i records samples) records samples r
-  told = rw d (checks-tell f k i records samples (lists .0) inside)
+  abbrev i : Image
+  i = h .image
 
-  on : finish f m ignore i records samples ≡ coloured f k i records samples
-  on = finish-on f m ignore i records samples lists file ∙ ap (λ j. coloured f j i records samples) (sym e)
+  -- what the settings leave of the record
+  abbrev pub k : Jp2
+  k = counted (h .settings) m
 
-  pub entry-refused : {number place : ℕ} → r ≡ Refused number place → finish f m ignore i records samples ≡ declined number place
-  entry-refused h = on ∙ (rw h at told)
+  abbrev pub next : Finishing
+  next = fitted f k i (h .records) (h .samples)
 
-  module _ {correct : Bool} (h : r ≡ Passed correct) where
-    passed : Told f k i (coloured f k i records samples) records samples (Passed correct)
-    passed = rw h at told
+  abbrev wrong : ℕ
+  wrong = lowest (misnamed f (k .lists .cdef) (channels k (i .count))) (k .lists .cdef .count)
 
-    pub entry-tested : Tested f k i
-    entry-tested = record { lists = lists; file = inside; mapping = passed .1 }
+  abbrev lacking : ℕ
+  lacking = lowest (undefined f (k .lists .cdef)) (channels k (i .count))
 
-    pub entry-flags : correct ≡ holds (mapped k and corrected f (k .lists .cmap) (i .count))
-    entry-flags = passed .2
+  abbrev astray : ℕ
+  astray = lowest (mismapped f (k .lists .cmap) (i .count)) (k .lists .cmap .count)
 
-    pub entry-on : finish f m ignore i records samples ≡ fitted f k i records samples
-    entry-on = on ∙ passed .0
+  abbrev blank : ℕ
+  blank = lowest (dataless f (k .lists .cmap) i) (k .lists .cmap .count)
 
--- the answer and both destinations, under another name of the finishing
-pub done-as : {x y : Finishing} {r : Finished} {records records′ : List ℕ} {planes planes′ : List ℤ} → y ≡ x → Done x r records records′ planes planes′ →
-    (r ≡ answered y) × ((records′ ≡ recordsAfter y records) × (planes′ ≡ samplesAfter y planes))
-done-as e d = rw e (d .answer, (d .numbers, d .samples))
+  -- what is known where the checks pass
+  pub record Passes (n : ℕ) (correct : Bool) : Type 0 where
+    pub on : finish h m ≡ next
+    pub tested : Tested f k i
+    pub all : n ≡ channels k (i .count)
+    pub flags : correct ≡ holds (mapped k and corrected f (k .lists .cmap) (i .count))
+
+  abbrev Told : Checked → Type 0
+  Told (Passed n correct) = Passes n correct
+  Told (Refused number place) = finish h m ≡ declined number place
+
+  finish-29 : Says true (outsideLists i or outsideFile f m) → finish h m ≡ declined 29 0
+  unfolding finish checks
+  finish-29 o = sym (row 0 _ o refl)
+
+  module _ (inside : Says false (outsideLists i or outsideFile f m)) where
+    later : {x : Finishing} → x ≡ colourChecks declined f k i next → finish h m ≡ x
+    unfolding finish checks
+    later e = sym (row 1 _ (inside, tt) e)
+
+    told-25 : wrong < k .lists .cdef .count → finish h m ≡ declined 25 wrong
+    unfolding colourChecks
+    told-25 w = later (row 0 _ w refl)
+
+    module _ (named : k .lists .cdef .count ≤ wrong) where
+      told-26 : lacking < channels k (i .count) → finish h m ≡ declined 26 lacking
+      unfolding colourChecks
+      told-26 w = later (row 1 _ (named, w) refl)
+
+      module _ (defined : channels k (i .count) ≤ lacking) where
+        told-27 : astray < k .lists .cmap .count → finish h m ≡ declined 27 astray
+        unfolding colourChecks
+        told-27 w = later (row 2 _ (named, (defined, w)) refl)
+
+        module _ (mapping : k .lists .cmap .count ≤ astray) where
+          told-28 : blank < k .lists .cmap .count → finish h m ≡ declined 28 blank
+          unfolding colourChecks
+          told-28 w = later (row 3 _ (named, (defined, (mapping, w))) refl)
+
+          on-next : k .lists .cmap .count ≤ blank → finish h m ≡ next
+          unfolding colourChecks
+          on-next lent = later (row 4 _ (named, (defined, (mapping, (lent, tt)))) refl)
+
+          told-passed : k .lists .cmap .count ≤ blank → Passes (channels k (i .count)) (holds (mapped k and corrected f (k .lists .cmap) (i .count)))
+          told-passed lent =
+              record {
+                on = on-next lent;
+                tested = record { lists = inside .0; file = counted-inside f m (h .settings) (inside .1); mapping = lowest-none _ _ mapping };
+                all = refl;
+                flags = refl;
+              }
+
+  told : Told (checked f m (h .settings) i)
+  unfolding checked checks colourChecks
+  told =
+      each Told _ (
+        finish-29,
+        λ inside.
+            each Told _ (
+              told-25 inside,
+              λ named. (told-26 inside named, λ defined. (told-27 inside named defined, λ mapping. (told-28 inside named defined mapping, told-passed inside named defined mapping))),
+            ),
+      )
+
+  -- an answer of the checks
+  module _ {r : Checked} (d : r ≡ checked f m (h .settings) i) where
+    pub entry-refused : {number place : ℕ} → r ≡ Refused number place → finish h m ≡ declined number place
+    entry-refused {number} {place} e = let t : Told r = rw d told in rw e at t
+
+    pub entry-passed : {n : ℕ} {correct : Bool} → r ≡ Passed n correct → Passes n correct
+    entry-passed {n} {correct} e = let t : Told r = rw d told in rw e at t

@@ -1,6 +1,7 @@
 pub mod Packing
+pub mod ColumnsOf
 pub mod Rooms
-pub mod Channels
+pub mod Packs
 pub mod Colours
 pub mod Finishes
 pub mod Wholes

@@ -1,32 +1,46 @@
--- The samples of one channel at a place of a destination.
+-- The samples of one channel at their place: copied, looked up in a column, or none.
 -- Assumes nothing.
 use Prim.Native.Nat.{ℕ}
 use native.Mathlib.Nat.{add-zero}
-use mathlib.Core.Path.{_≡_, refl, sym, _∙_}
-use mathlib.Core.List.{List, map, append-nil}
+use mathlib.Core.Path.{_≡_, refl, sym, ap, ap₂, _∙_}
+use mathlib.Core.List.{List, [], _∷_, map, append-nil}
 use lib.IntN.{ℤ}
 use lib.ListN.{length, take, take-append-drop}
-use Rattle.box_number.specs.Table.{_=?_, _or_, _and_}
-use Rattle.box_number.proofs.Rows.{row}
-use Rattle.read_record.specs.declared.Palette.{Palette}
-use Rattle.picture_rules.specs.Samples.{valueFor}
-use Rattle.picture_rules.specs.Image.{first, none, size}
+use Rattle.box_number.specs.Table.{_or_}
 use Rattle.box_number.specs.Number.{placed}
-use Rattle.picture_planes.specs.Put.{put}
-use Rattle.picture_planes.specs.Column.{noColumn}
+use Rattle.box_number.proofs.Rows.{row}
+use Rattle.picture_rules.specs.Image.{listed, first, none, size}
+use Rattle.picture_planes.specs.declared.Column.{Column}
+use Rattle.picture_planes.specs.Written.{written}
+use Rattle.picture_planes.specs.Column.{noColumn, picked}
 use Rattle.picture_planes.specs.Plane.{plane, outside}
-use Rattle.picture_components.specs.Alone.{listed}
-use Rattle.picture_finish.specs.Parts.{samplesAt, Packable}
+use Rattle.picture_planes.proofs.Picks.{map-same}
+use Rattle.picture_finish.specs.Private.Parts.{valueBy, samplesAt, Packable}
 
-module _ (f : List ℕ) (p : Palette) (comps : List ℕ) (samples : List ℤ) (c r typ : ℕ) (d : List ℤ) (at : ℕ) where
+-- a channel of another type than 1 takes the samples as they are
+direct : (s : List ℕ) (k : Column) (typ : ℕ) → (typ ≡ 1 → ⊥) → (l : List ℤ) → l ≡ map (valueBy s k typ) l
+direct s k typ h [] = refl
+direct s k typ h (v ∷ l) = ap₂ _∷_ (row 1 _ (h, tt) refl) (direct s k typ h l)
+
+-- the samples of component r
+abbrev source : List ℕ → List ℤ → ℕ → List ℤ
+source comps samples r = plane samples (first (listed comps) r) (size (listed comps) r)
+
+module _ (s : List ℕ) (k : Column) (comps : List ℕ) (samples : List ℤ) (r typ : ℕ) (d : List ℤ) (at : ℕ) where
   -- a component without samples changes nothing
-  pub placed-blank : 0 ≡ size (listed comps) r → d ≡ placed d at (samplesAt f p comps samples c r typ)
+  pub placed-blank : 0 ≡ size (listed comps) r → d ≡ placed d at (samplesAt s k comps samples r typ)
   unfolding placed
   placed-blank e = rw (← e, add-zero at, append-nil (take at d)) (sym (take-append-drop at d))
 
-  -- what is put is placed, where nothing is amiss
-  pub placed-where : Packable f p comps samples c r typ (length d) at → (first (listed comps) r ≡ none → ⊥) → {from n : ℕ} → {e : List ℤ} → from ≡ first (listed comps) r → n ≡ size (listed comps) r →
-      e ≡ put (typ =? 1 and noColumn f p c or outside samples from n d at) d at (map (valueFor f p c typ) (plane samples from n)) → e ≡ placed d at (samplesAt f p comps samples c r typ)
-  unfolding put
-  placed-where h some {from} {n} {e} u v q =
-      rw (u, v) at q ∙ sym (row 1 _ ((h .column, (h .inside some, h .fits)), tt) refl)
+  module _ (h : Packable k comps samples r typ (length d) at) (some : first (listed comps) r ≡ none → ⊥) {from n : ℕ} {e : List ℤ} (u : from ≡ first (listed comps) r) (v : n ≡ size (listed comps) r) where
+    pub placed-looked : typ ≡ 1 → e ≡ written (noColumn k or outside samples from n d at) d at (map (picked s k) (plane samples from n)) → e ≡ placed d at (samplesAt s k comps samples r typ)
+    unfolding written
+    placed-looked t q =
+        let p : e ≡ placed d at (map (picked s k) (source comps samples r)) = rw (u, v) at q ∙ sym (row 1 _ ((h .column t, (h .inside some, h .fits)), tt) refl) in
+        p ∙ ap (placed d at) (map-same (λ x. row 0 _ t refl) (source comps samples r))
+
+    pub placed-copied : (typ ≡ 1 → ⊥) → e ≡ written (outside samples from n d at) d at (plane samples from n) → e ≡ placed d at (samplesAt s k comps samples r typ)
+    unfolding written
+    placed-copied t q =
+        let p : e ≡ placed d at (source comps samples r) = rw (u, v) at q ∙ sym (row 1 _ ((h .inside some, h .fits), tt) refl) in
+        p ∙ ap (placed d at) (direct s k typ t (source comps samples r))

@@ -1,31 +1,27 @@
--- Whether a picture has its samples and room: what bounds the sums, and what each answer means.
+-- Whether the destinations have room for a picture: what bounds the sums, and what each answer means.
 -- Assumes nothing.
 use Prim.Native.Nat.{ℕ, zero, suc, _+_, _*_, _≤_, _<_}
 use native.Mathlib.Omega.{arith}
 use mathlib.Core.Path.{_≡_, refl, ap, ap₂, _∙_}
-use mathlib.Core.Bool.{false}
 use mathlib.Core.List.{List}
 use lib.IntN.{ℤ}
 use lib.ListN.{length}
 use Rattle.box_number.specs.Table.{_=?_}
-use Rattle.box_number.proofs.Rows.{Says, row, each}
+use Rattle.box_number.proofs.Rows.{row, each}
 use Rattle.read_record.specs.declared.Jp2.{Jp2}
-use Rattle.picture_rules.specs.Image.{Image, image, first, none, size}
-use Rattle.box_number.specs.Lowest.{lowest}
+use Rattle.picture_rules.specs.Image.{Image, image, listed, first, none, size}
 use Rattle.picture_rules.specs.Channels.{channels, componentOf}
 use Rattle.picture_rules.specs.Samples.{startOf}
-use Rattle.picture_rules.specs.Check.{dataless}
-use Rattle.picture_rules.specs.Finish.{Finishing, finished, declined, outsideFile, picture, fitted}
+use Rattle.picture_rules.specs.Finish.{Finishing, finished, declined, picture, fitted}
 use Rattle.box_number.proofs.Indices.{decide}
 use Rattle.picture_rules.proofs.Packs.{Within}
 use Rattle.picture_rules.proofs.Mappings.{kept, channels-few, component-inside}
-use Rattle.picture_components.specs.Alone.{listed, mappings}
-use Rattle.picture_components.proofs.Planes.{size-none, size-area}
+use Rattle.picture_rules.proofs.Areas.{size-none, size-area}
 use Rattle.picture_finish.specs.declared.Finished.the-variants.{Planes, Refused}
 use Rattle.picture_finish.specs.Answers.{answered}
-use Rattle.picture_finish.specs.Parts.{Tested, Roomy}
+use Rattle.picture_finish.specs.Private.Parts.{mappings, Tested, Roomy}
 
--- an answer tells its finishing
+-- a refusal that was answered
 pub refused-is : (x : Finishing) {number place : ℕ} → Refused number place ≡ answered x → x ≡ declined number place
 unfolding answered
 refused-is (finished planes) e = let z : _≡_ {A = ℕ} 0 1 = cc in absurd (omega arith)
@@ -38,13 +34,6 @@ clash number place e = let z : _≡_ {A = ℕ} 0 1 = cc in absurd (omega arith)
 counts : {n : ℕ} (planes : Image) → Planes n ≡ answered (finished planes) → n ≡ planes .count
 unfolding answered
 counts planes e = cc
-
--- there are few mappings: one for each column of the palette
-pub mappings-few : (f : List ℕ) (m : Jp2) → Says false (outsideFile f m) → m .lists .cmap .count ≤ 16384
-mappings-few f m file =
-    decide (m .lists .cmap .count =? 0)
-    (λ z. omega arith)
-    (λ some. let e = file .1 .0 some .0 in omega (arith, file .0 (λ z. some (omega arith)) .1 .1 .0))
 
 module _ (f : List ℕ) (m : Jp2) (comps : List ℕ) (count : ℕ) (samples : List ℤ) where
   abbrev i : Image
@@ -80,37 +69,30 @@ module _ (f : List ℕ) (m : Jp2) (comps : List ℕ) (count : ℕ) (samples : Li
         rw (component-alone c) (size-most (componentOf f m c) (tested .lists .1 .1 .0) (component-inside f m i (kept f m (tested .file)) (tested .mapping) c l (tested .lists)))
 
   module _ (records planes : ℕ) where
-    abbrev blank : ℕ
-    blank = lowest (dataless f (m .lists .cmap) i) (m .lists .cmap .count)
-
-    pub refused-28 : {b : ℕ} → b ≡ blank → b < m .lists .cmap .count → Refused 28 b ≡ answered (fitted f m i records planes)
-    unfolding fitted answered
-    refused-28 e l = rw e (ap answered (row 0 _ (omega arith) refl))
-
-    module _ {b n : ℕ} (e : b ≡ blank) (h : m .lists .cmap .count ≤ b) (d : n ≡ channels m count) where
-      pub refused-30-records : records < 13 * n → Refused 30 (13 * n) ≡ answered (fitted f m i records planes)
+    module _ {n : ℕ} (d : n ≡ channels m count) where
+      pub refused-records : records < 13 * n → Refused 30 (13 * n) ≡ answered (fitted f m i records planes)
       unfolding fitted answered
-      refused-30-records l = rw d (ap answered (row 1 _ (omega arith) refl))
+      refused-records l = rw d (ap answered (row 0 _ (omega arith) refl))
 
       module _ {needed : ℕ} (s : needed ≡ startOf f m i n) (r : 13 * n ≤ records) where
         is : needed ≡ startOf f m i (channels m count)
         is = s ∙ ap (startOf f m i) d
 
-        pub refused-30-samples : (needed ≤ 4294967294 → planes < needed) → Refused 30 needed ≡ answered (fitted f m i records planes)
+        pub refused-samples : (needed ≤ 4294967294 → planes < needed) → Refused 30 needed ≡ answered (fitted f m i records planes)
         unfolding fitted answered
-        refused-30-samples l = let z = is in rw z (ap answered (row 2 _ (omega arith, (omega arith, (λ few. omega (arith, l (omega arith))))) refl))
+        refused-samples l = let z = is in rw z (ap answered (row 1 _ (omega arith, (λ few. omega (arith, l (omega arith)))) refl))
 
         pub planes-fit : needed ≤ 4294967294 → needed ≤ planes → Planes n ≡ answered (fitted f m i records planes)
         unfolding fitted answered picture
-        planes-fit l k = let z = is in rw d (ap answered (row 3 _ (omega arith, (omega arith, ((omega arith, omega arith), tt))) refl))
+        planes-fit l k = let z = is in rw d (ap answered (row 2 _ (omega arith, ((omega arith, omega arith), tt)) refl))
 
-    -- planes are told where all is well
+    -- planes are answered where there is room
     pub planes-are : {n : ℕ} → Planes n ≡ answered (fitted f m i records planes) → (fitted f m i records planes ≡ finished (picture f m i)) × Roomy f m i n records planes
     unfolding fitted picture
     planes-are {n} =
         each (λ x. Planes n ≡ answered x → (x ≡ finished (picture f m i)) × Roomy f m i n records planes) _ (
           (λ _. clash _ _),
-          λ _. ((λ _. clash _ _), λ long. ((λ _. clash _ _), λ fits e. (refl, roomy long (fits .0) (fits .1) (counts (picture f m i) e)))),
+          λ long. ((λ _. clash _ _), λ fits e. (refl, roomy long (fits .0) (fits .1) (counts (picture f m i) e))),
         )
       where
         roomy : 13 * channels m count ≤ records → startOf f m i (channels m count) ≤ 4294967294 → startOf f m i (channels m count) ≤ planes → n ≡ channels m count → Roomy f m i n records planes

@@ -18,16 +18,18 @@ use Rattle.read_file.proofs.FileAnswer.{the-type}
 use Rattle.read_rules.specs.Alike.{given}
 use Rattle.picture_rules.specs.Image.{Image, image}
 use Rattle.picture_rules.specs.Finish.{Finishing, finished, declined, counted, finish}
-use Rattle.picture_rules.specs.Words.{Handed, Accepted}
+use Rattle.picture_rules.specs.Handed.{Handed}
+use Rattle.picture_rules.specs.Words.{Accepted}
 use Rattle.picture_rules.specs.PictureRule.{RightPlanes}
 use Rattle.picture_rules.specs.EveryPicture.{EveryPlane}
 use Rattle.picture_rules.proofs.Destinations.{right-in-place, every-in-place}
 use Rattle.picture_finish.specs.declared.Finished.{Finished}
 use Rattle.picture_finish.specs.declared.Finished.the-variants.{Planes, Refused}
-use Rattle.picture_finish.specs.Answers.{answered, recordsAfter, samplesAfter}
+use Rattle.picture_finish.specs.Answers.{answered, recordsAfter, samplesAfter, Done}
 use Rattle.picture_rules.specs.Met.{Met, direct, directPlanes, paletted, palettedPlanes}
 use Rattle.picture_rules.proofs.Mets.{direct-met, palette-met}
-use Rattle.picture_finish.specs.Whole.{pictured, PictureRight, PictureFilled, Speaks}
+use Rattle.picture_finish.proofs.Colours.{declined-done}
+use Rattle.picture_finish.specs.Whole.{pictured, PictureRight, PictureFilled, ReadPicture, Speaks}
 
 -- the cases of an answer that refuse nothing: codestream and ended
 abbrev pub reads : List ℕ
@@ -51,7 +53,7 @@ module _ (h : Handed) where
   unfolding pictured
   reading-refused e d = rw (told-refused (read (h .file)) e d)
 
-  pub reading-on : {r : Reading} → r ≡ reading blank (read (h .file)) → OneOf reads (tagOf the-type (r .answer)) → pictured h ≡ finish (h .file) (r .jp2) (h .ignore) (h .image) (h .records) (h .samples)
+  pub reading-on : {r : Reading} → r ≡ reading blank (read (h .file)) → OneOf reads (tagOf the-type (r .answer)) → pictured h ≡ finish h (r .jp2)
   unfolding pictured
   reading-on e d = rw (told-read (read (h .file)) e d)
 
@@ -63,7 +65,7 @@ module _ (h : Handed) where
   unfolding answered recordsAfter samplesAfter pictured
   carried (finished p) records planes is a u v P m n accepts e holds =
       let q : n ≡ p .count = cc in
-      let f : finish (h .file) m (h .ignore) (h .image) (h .records) (h .samples) ≡ finished p = rw accepts at is in
+      let f : finish h m ≡ finished p = rw accepts at is in
       rw (q, u, v) (holds p (record { reading = accepts; finishing = f }) (drop (length (p .components)) records) (drop (length (p .samples)) planes))
   carried (declined number place) records planes is a u v P m n accepts e holds = let z : _≡_ {A = ℕ} 0 1 = cc in absurd (omega arith)
 
@@ -72,19 +74,19 @@ module _ (h : Handed) where
   right x records planes is a u v m n accepts e defined clear = carried x records planes is a u v (RightPlanes h m) m n accepts e (λ p y d s. right-in-place h m p y defined clear d s)
 
   every : (x : Finishing) {r : Finished} (records : List ℕ) (planes : List ℤ) {records′ : List ℕ} {planes′ : List ℤ} → pictured h ≡ x → r ≡ answered x → records′ ≡ recordsAfter x records → planes′ ≡ samplesAfter x planes → PictureFilled h r records′ planes′
-  every x records planes is a u v m n accepts e = carried x records planes is a u v (EveryPlane h (counted (h .ignore) m)) m n accepts e (λ p y d s. every-in-place h m p y d s)
+  every x records planes is a u v m n accepts e = carried x records planes is a u v (EveryPlane h (counted (h .settings) m)) m n accepts e (λ p y d s. every-in-place h m p y d s)
 
-  -- all five clauses at once
-  abbrev Shown : Finished → List ℕ → List ℕ → List ℤ → List ℤ → Type 0
-  Shown r records records′ planes planes′ = (r ≡ answered (pictured h)) × ((records′ ≡ recordsAfter (pictured h) records) × ((planes′ ≡ samplesAfter (pictured h) planes) × (PictureRight h r records′ planes′ × PictureFilled h r records′ planes′)))
+  -- the whole promise
+  pub shows : (x : Finishing) {r : Finished} (records : List ℕ) (planes : List ℤ) {records′ : List ℕ} {planes′ : List ℤ} → pictured h ≡ x → Done x r records records′ planes planes′ → ReadPicture h r records records′ planes planes′
+  shows x records planes is d =
+      record {
+        done = rw is d;
+        right = right x records planes is (d .answer) (d .numbers) (d .samples);
+        filled = every x records planes is (d .answer) (d .numbers) (d .samples);
+      }
 
-  pub shows : (x : Finishing) {r : Finished} (records : List ℕ) (planes : List ℤ) {records′ : List ℕ} {planes′ : List ℤ} → pictured h ≡ x → r ≡ answered x → records′ ≡ recordsAfter x records → planes′ ≡ samplesAfter x planes →
-      Shown r records records′ planes planes′
-  shows x records planes is a u v = (rw is a, (rw is u, (rw is v, (right x records planes is a u v, every x records planes is a u v))))
-
-  pub shows-refused : {number place : ℕ} (records : List ℕ) (planes : List ℤ) → pictured h ≡ declined number place → Shown (Refused number place) records records planes planes
-  unfolding answered recordsAfter samplesAfter
-  shows-refused {number} {place} records planes is = shows (declined number place) records planes is refl refl refl
+  pub shows-refused : {number place : ℕ} (records : List ℕ) (planes : List ℤ) → pictured h ≡ declined number place → ReadPicture h (Refused number place) records records planes planes
+  shows-refused {number} {place} records planes is = shows (declined number place) records planes is (declined-done (declined number place) records planes refl)
 
 -- the rules in the promise are not empty ones: with a palette and without, their premises are met
 speaks : (h : Handed) (planes : Image) (other : List ℕ) → Met h planes other → Speaks h planes

@@ -1,5 +1,6 @@
 -- What finishing a picture answers, and what it leaves in the two destinations.
 use Prim.Native.Nat.{ℕ}
+use mathlib.Core.Path.{_≡_}
 use mathlib.Core.List.{List, _++_}
 use lib.IntN.{ℤ}
 use lib.ListN.{length, drop}
@@ -7,7 +8,7 @@ use Rattle.picture_rules.specs.Finish.{Finishing, finished, declined}
 use Rattle.picture_finish.specs.declared.Finished.{Finished}
 use Rattle.picture_finish.specs.declared.Finished.the-variants.{Planes, Refused}
 
--- so many planes, or document 01's number with its index or needed length
+-- how many planes, or document 01's number with its index or needed length
 unfoldable pub answered : Finishing → Finished
 answered (finished planes) = Planes (planes .count)
 answered (declined number place) = Refused number place
@@ -25,3 +26,9 @@ recordsAfter (declined number place) d = d
 unfoldable pub samplesAfter : Finishing → List ℤ → List ℤ
 samplesAfter (finished planes) d = fronted (planes .samples) d
 samplesAfter (declined number place) d = d
+
+-- a finishing x is answered by r, and leaves records′ and planes′ where the destinations were records and planes
+pub record Done (x : Finishing) (r : Finished) (records records′ : List ℕ) (planes planes′ : List ℤ) : Type 0 where
+  pub answer : r ≡ answered x
+  pub numbers : records′ ≡ recordsAfter x records
+  pub samples : planes′ ≡ samplesAfter x planes

@@ -1,3 +1,3 @@
 pub mod Answers
-pub mod Parts
 pub mod Whole
+pub mod Private

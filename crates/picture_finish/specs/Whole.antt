@@ -10,15 +10,17 @@ use Rattle.read_file.specs.File.{read}
 use Rattle.read_rules.specs.Alike.{given}
 use Rattle.picture_rules.specs.Image.{Image, image}
 use Rattle.picture_rules.specs.Finish.{Finishing, declined, counted, finish}
-use Rattle.picture_rules.specs.Words.{Handed, Defined, Clear}
+use Rattle.picture_rules.specs.Handed.{Handed, settings}
+use Rattle.picture_rules.specs.Words.{Defined, Clear}
 use Rattle.picture_rules.specs.PictureRule.{RightPlanes}
 use Rattle.picture_rules.specs.EveryPicture.{EveryPlane}
 use Rattle.picture_finish.specs.declared.Finished.{Finished}
 use Rattle.picture_finish.specs.declared.Finished.the-variants.{Planes}
+use Rattle.picture_finish.specs.Answers.{Done}
 
--- all that is handed in; of the destinations their lengths
+-- all inputs of finishing; of the destinations their lengths
 abbrev pub handed : List ℕ → ℕ → List ℕ → ℕ → List ℤ → List ℕ → List ℤ → Handed
-handed file ignore comps count samples records planes = record { file = file; image = image comps count samples; ignore = ignore; records = length records; samples = length planes }
+handed file ignore comps count samples records planes = record { file = file; image = image comps count samples; settings = settings ignore; records = length records; samples = length planes }
 
 -- a refusal of reading, or what is made of the record
 abbrev pub thenFinish : Result → (Jp2 → Finishing) → Finishing
@@ -27,9 +29,9 @@ thenFinish (refused number place) next = declined number place
 
 -- the picture is finished with the record from reading its file
 unfoldable pub pictured : Handed → Finishing
-pictured h = thenFinish (given (read (h .file))) (λ m. finish (h .file) m (h .ignore) (h .image) (h .records) (h .samples))
+pictured h = thenFinish (given (read (h .file))) (finish h)
 
--- demand 3, of the destinations themselves: where so many planes are answered, with definitions that are present, applied and clash nowhere, each channel fills its plane and each colour has its own
+-- demand 3, of the destinations themselves: where planes are answered, with definitions that are present, applied and clash nowhere, each channel fills its plane and each colour has its own
 abbrev pub PictureRight : Handed → Finished → List ℕ → List ℤ → Type 0
 PictureRight h answer records planes =
     (m : Jp2) (n : ℕ) → given (read (h .file)) ≡ accepted m → answer ≡ Planes n → Defined h m → Clear h m → RightPlanes h m (image records n planes)
@@ -37,9 +39,15 @@ PictureRight h answer records planes =
 -- and with no premise on the definitions: each channel fills a plane of its own and, where nothing defines the channels, channel c plane c
 abbrev pub PictureFilled : Handed → Finished → List ℕ → List ℤ → Type 0
 PictureFilled h answer records planes =
-    (m : Jp2) (n : ℕ) → given (read (h .file)) ≡ accepted m → answer ≡ Planes n → EveryPlane h (counted (h .ignore) m) (image records n planes)
+    (m : Jp2) (n : ℕ) → given (read (h .file)) ≡ accepted m → answer ≡ Planes n → EveryPlane h (counted (h .settings) m) (image records n planes)
 
--- both say something: of these planes for what is handed in, they tell that they are right, and filled
+-- the whole promise: the answer, both destinations, and demand 3
+pub record ReadPicture (h : Handed) (r : Finished) (records records′ : List ℕ) (planes planes′ : List ℤ) : Type 0 where
+  pub done : Done (pictured h) r records records′ planes planes′
+  pub right : PictureRight h r records′ planes′
+  pub filled : PictureFilled h r records′ planes′
+
+-- both rules say something: of these planes for these inputs, that they are right, and filled
 pub record Speaks (h : Handed) (planes : Image) : Type 0 where
   pub right : PictureRight h (Planes (planes .count)) (planes .components) (planes .samples) → (m : Jp2) × RightPlanes h m planes
-  pub filled : PictureFilled h (Planes (planes .count)) (planes .components) (planes .samples) → (m : Jp2) × EveryPlane h (counted (h .ignore) m) planes
+  pub filled : PictureFilled h (Planes (planes .count)) (planes .components) (planes .samples) → (m : Jp2) × EveryPlane h (counted (h .settings) m) planes

@@ -1,6 +1,4 @@
 pub mod Entries
-pub mod Amiss
 pub mod Columns
-pub mod PlaneAmiss
-pub mod PlaneColumns
+pub mod Picks
 pub mod Lookups

@@ -8,7 +8,8 @@ use lib.IntN.{ℤ, pos}
 use lib.ListN.{length, take, drop, getD, set, length-drop, length-map, List·getD-map}
 use lib.Seq.{getD-drop}
 use Rattle.box_number.specs.Number.{placed}
-use Rattle.picture_planes.specs.Plane.{plane, entryFor}
+use Rattle.picture_planes.specs.Plane.{plane}
+use Rattle.picture_planes.specs.Private.Entry.{entryFor}
 use Rattle.box_number.proofs.Placing.{Placing, placing-more, placing-from, placing-all}
 
 take-map : {A B : Type 0} (f : A → B) (n : ℕ) (l : List A) → take n (map f l) ≡ map f (take n l)

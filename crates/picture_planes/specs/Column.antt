@@ -1,18 +1,30 @@
--- Document 01, "Colour, palette, order": a column of a palette that is kept in the file.
-use Prim.Native.Nat.{ℕ, zero, suc, _+_}
+-- Document 01, "Colour, palette, order": a column of a palette, as entries that are the same number of bytes apart in a list of bytes.
+use Prim.Native.Nat.{ℕ, zero, suc, _+_, _-_, _*_}
 use mathlib.Core.List.{List, [], _∷_, _++_}
 use lib.IntN.{ℤ}
-use Rattle.box_number.specs.Table.{Test, _<?_, _or_}
-use Rattle.read_record.specs.declared.Palette.{Palette}
-use Rattle.read_palette.specs.Pclr.{Cji}
-use Rattle.picture_rules.specs.Samples.{displayed}
-use Rattle.picture_rules.specs.Finish.{paletteOutside}
+use Rattle.box_number.specs.Table.{Test, _=?_, _<?_, _or_}
+use Rattle.box_number.specs.Number.{number}
+use Rattle.picture_rules.specs.Samples.{clamped, displayed}
+use Rattle.picture_rules.specs.Finish.{mostEntries}
+use Rattle.picture_planes.specs.declared.Column.{Column}
 
--- the file f has no column i of a palette: there are fewer, or the palette is one that 29 refuses
-abbrev pub noColumn : List ℕ → Palette → ℕ → Test
-noColumn f p i = p .columns <? i + 1 or paletteOutside f p
+-- the most bytes of an entry
+abbrev pub mostBytes : ℕ
+mostBytes = 4
 
--- the first n entries of a palette's column i, as samples
-unfoldable pub column : List ℕ → Palette → ℕ → ℕ → List ℤ
-column f p i zero = []
-column f p i (suc n) = column f p i n ++ (displayed (Cji f p n i) ∷ [])
+-- a column of no entries, of too many, or of entries with too many bytes
+abbrev pub noColumn : Column → Test
+noColumn k = k .entries =? 0 or mostEntries <? k .entries or mostBytes <? k .wide
+
+-- entry j, as a sample
+abbrev pub entryAt : List ℕ → Column → ℕ → ℤ
+entryAt s k j = displayed (number s (k .place + j * k .step) (k .wide))
+
+-- the first n entries
+unfoldable pub column : List ℕ → Column → ℕ → List ℤ
+column s k zero = []
+column s k (suc n) = column s k n ++ (entryAt s k n ∷ [])
+
+-- the entry that a sample picks
+unfoldable pub picked : List ℕ → Column → ℤ → ℤ
+picked s k v = entryAt s k (clamped v (k .entries - 1))

@@ -1,3 +1,4 @@
-pub mod Put
+pub mod Written
 pub mod Column
 pub mod Plane
+pub mod Private

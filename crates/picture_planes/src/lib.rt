@@ -1,30 +1,43 @@
-// Samples and the entries of a palette (`opj_jp2_apply_pclr` of jp2.rs): an entry as a sample, and the index that a sample picks.
-ghost use mathlib.Core.Path.{_≡_};
-ghost use Rattle.picture_rules.specs.Samples.{floored, held, displayed, lookup, valueFor};
+// Planes of samples (`opj_jp2_apply_pclr` of jp2.rs): copied, or looked up in a column of a palette, from one list of samples to another.
 ghost use Prim.Native.Nat.{_<_, _≤_, _+_};
-ghost use lib.ListN.{length, getD, set};
-ghost use Rattle.box_number.specs.Table.{_<?_, _or_, _=?_, _and_, flag};
-ghost use Rattle.box_number.specs.Number.{placed};
-ghost use Rattle.picture_planes.specs.Put.{done, put};
-ghost use Rattle.picture_planes.specs.Column.{noColumn, column};
+ghost use mathlib.Core.Path.{_≡_};
 ghost use mathlib.Core.List.{map};
 ghost use lib.IntN.{pos};
-ghost use Rattle.picture_planes.specs.Plane.{plane, outside, entryFor};
-ghost use Rattle.picture_rules.specs.Channels.{typeBy};
-ghost use Rattle.picture_rules.specs.Finish.{counted, expandedFrom};
-ghost use Rattle.picture_components.specs.Alone.{listed};
-use read_record::Jp2;
-use read_record::Palette;
-use read_record::Span;
+ghost use lib.ListN.{length, getD, set};
+ghost use Rattle.box_number.specs.Table.{_or_, holds};
+ghost use Rattle.box_number.specs.Number.{placed};
+ghost use Rattle.picture_rules.specs.Samples.{floored, clamped, displayed};
+ghost use Rattle.picture_rules.specs.Finish.{mostEntries};
+ghost use Rattle.picture_planes.specs.Written.{done, written};
+ghost use Rattle.picture_planes.specs.Column.{mostBytes, noColumn, column, picked};
+ghost use Rattle.picture_planes.specs.Plane.{plane, outside};
+ghost use Rattle.picture_planes.specs.Private.Entry.{entryFor};
+
+// The most entries of a column.
+const MOST_ENTRIES: usize = 1024;
+
+// The most bytes of an entry.
+const MOST_BYTES: u32 = 4;
+
+// From here up an entry is shown as a number below 0.
+const SIGN_BIT: u32 = 0x8000_0000;
+
+// A column of entries in a list of bytes: the place of its first entry, the bytes from one entry to the next, the bytes of an entry, and how many entries there are.
+pub struct Column {
+    pub place: u32,
+    pub step: u32,
+    pub wide: u32,
+    pub entries: u32,
+}
 
 // An entry of a palette as a sample.
-pub fn displayed(e: u32) -> i32
+fn displayed(e: u32) -> i32
     ensures { λ r. ⌜ r ≡ displayed e ⌝ }
 {
-    if e < 0x8000_0000 {
+    if e < SIGN_BIT {
         e as i32
     } else {
-        ((e - 0x8000_0000) as i32) + (-2147483648)
+        ((e - SIGN_BIT) as i32) + (-2147483648)
     }
 }
 
@@ -39,75 +52,44 @@ fn floored(s: i32) -> u32
 }
 
 // The index that a sample picks among entries of which the last has the given index.
-pub fn held(s: i32, last: u32) -> u32
-    ensures { λ r. ⌜ r ≡ held s last ⌝ }
+fn clamped(s: i32, last: u32) -> u32
+    ensures { λ r. ⌜ r ≡ clamped s last ⌝ }
 {
     let u = floored(s);
     if u < last { u } else { last }
 }
 
-// The columns of a palette (`opj_jp2_apply_pclr` of jp2.rs): the entries of one, read from the file as samples.
-
-// Whether column i of the palette is there.
-fn has_column(f: &[u8], p: Palette, i: u32) -> bool
-    ensures { λ r. ⌜ r ≡ done (noColumn (now (f .entry)) p i) ⌝ }
+// Whether a column has no entries, too many of them, or too many bytes in an entry.
+fn no_column(k: Column) -> bool
+    ensures { λ r. ⌜ r ≡ holds (noColumn k) ⌝ }
 {
-    if p.columns <= i {
-        return false;
+    if k.entries == 0 {
+        return true;
     }
-    !picture_bounds::palette_outside(f, p)
+    if MOST_ENTRIES < k.entries as usize {
+        return true;
+    }
+    MOST_BYTES < k.wide
 }
 
-// The entries of the palette's column i, as samples, at the front of out.
-fn decode_column(f: &[u8], p: Palette, i: u32, out: &mut [i32])
-    requires { ⌜ (p .place ≤ length (now f)) × (p .entries ≤ 1024) × (p .columns ≤ 255) × (i < p .columns) × (p .entries ≤ length (now out)) ⌝ }
-    ensures { λ _. ⌜ now (out .exit) ≡ placed (now (out .entry)) 0 (column (now (f .entry)) p i (p .entries)) ⌝ }
+// Puts the entries of a column of s, as samples, to the front of out. A byte past the end of s counts as 0.
+fn read_column(s: &[u8], k: Column, out: &mut [i32])
+    requires { ⌜ (k .entries ≤ mostEntries) × (k .wide ≤ mostBytes) × (k .entries ≤ length (now out)) ⌝ }
+    ensures { λ _. ⌜ now (out .exit) ≡ placed (now (out .entry)) 0 (column (now (s .entry)) k (k .entries)) ⌝ }
 {
-    let place = p.place;
-    let entries = p.entries as usize;
-    let columns = p.columns as usize;
-    let rest = &f[place..];
-    let wide = read_palette::entry_bytes(box_number::read_u8(rest, i as usize));
-    let row = read_palette::row_bytes(rest, 0, columns as u8);
-    let mut at = columns + read_palette::row_bytes(rest, 0, i as u8);
-    let mut j = 0;
+    let step = k.step as usize;
+    let wide = k.wide as usize;
+    let entries = k.entries as usize;
+    let mut at = k.place as usize;
+    let mut j: usize = 0;
     while j < entries {
-        out[j] = displayed(box_number::opj_read_bytes(rest, at, wide));
-        at += row;
+        out[j] = displayed(box_number::opj_read_bytes(s, at, wide));
+        at += step;
         j += 1;
     }
 }
 
-// Puts the entries of the palette's column i, as samples, to the front of out; false, with nothing changed, where the file has no such column, or out no room for it.
-pub fn read_column(f: &[u8], p: Palette, i: u32, out: &mut [i32]) -> bool
-    ensures { λ r. ⌜ r ≡ done (noColumn (now (f .entry)) p i or length (now (out .entry)) <? p .entries) ⌝ }
-    ensures { λ _. ⌜ now (out .exit) ≡ put (noColumn (now (f .entry)) p i or length (now (out .entry)) <? p .entries) (now (out .entry)) 0 (column (now (f .entry)) p i (p .entries)) ⌝ }
-{
-    if !has_column(f, p, i) {
-        return false;
-    }
-    if out.len() < p.entries as usize {
-        return false;
-    }
-    decode_column(f, p, i, out);
-    true
-}
-
-// Planes of samples (`opj_jp2_apply_pclr` of jp2.rs): copied, or looked up in a column of the palette, from one lent list of samples to another.
-
-// Whether n elements from a place on lie in a list of the given length.
-fn inside(len: usize, from: usize, n: usize) -> bool
-    ensures { λ r. ⌜ r ≡ done (len <? from + n) ⌝ }
-{
-    if len < n {
-        return false;
-    }
-    if len - n < from {
-        return false;
-    }
-    true
-}
-
+// Copies n samples that lie in both lists.
 fn copy_inside(src: &[i32], from: usize, n: usize, dst: &mut [i32], at: usize)
     requires { ⌜ (from + n ≤ length (now src)) × (at + n ≤ length (now dst)) ⌝ }
     ensures { λ _. ⌜ now (dst .exit) ≡ placed (now (dst .entry)) at (plane (now (src .entry)) from n) ⌝ }
@@ -122,12 +104,12 @@ fn copy_inside(src: &[i32], from: usize, n: usize, dst: &mut [i32], at: usize)
 // Copies the n samples of src from a place on to a place of dst; false, with nothing changed, where they do not lie in both.
 pub fn copy_plane(src: &[i32], from: usize, n: usize, dst: &mut [i32], at: usize) -> bool
     ensures { λ r. ⌜ r ≡ done (outside (now (src .entry)) from n (now (dst .entry)) at) ⌝ }
-    ensures { λ _. ⌜ now (dst .exit) ≡ put (outside (now (src .entry)) from n (now (dst .entry)) at) (now (dst .entry)) at (plane (now (src .entry)) from n) ⌝ }
+    ensures { λ _. ⌜ now (dst .exit) ≡ written (outside (now (src .entry)) from n (now (dst .entry)) at) (now (dst .entry)) at (plane (now (src .entry)) from n) ⌝ }
 {
-    if !inside(src.len(), from, n) {
+    if box_number::lies_outside(src.len(), from, n) {
         return false;
     }
-    if !inside(dst.len(), at, n) {
+    if box_number::lies_outside(dst.len(), at, n) {
         return false;
     }
     copy_inside(src, from, n, dst, at);
@@ -135,17 +117,24 @@ pub fn copy_plane(src: &[i32], from: usize, n: usize, dst: &mut [i32], at: usize
 }
 
 // Looks one sample up.
-fn look_up(entries: &[i32; 1024], last: u32, src: &[i32], i: usize, dst: &mut [i32], j: usize)
-    requires { ⌜ (last < 1024) × (i < length (now src)) × (j < length (now dst)) ⌝ }
+fn look_up(
+    entries: &[i32; MOST_ENTRIES],
+    last: u32,
+    src: &[i32],
+    i: usize,
+    dst: &mut [i32],
+    j: usize,
+)
+    requires { ⌜ (last < mostEntries) × (i < length (now src)) × (j < length (now dst)) ⌝ }
     ensures { λ _. ⌜ now (dst .exit) ≡ set (now (dst .entry)) j (entryFor (now (entries .entry)) last (getD (now (src .entry)) i (pos 0))) ⌝ }
 {
-    let e = held(src[i], last) as usize;
+    let e = clamped(src[i], last) as usize;
     dst[j] = entries[e];
 }
 
 // Four samples a turn, as long as there are four: how many were looked up. This takes about a quarter less time than one a turn.
 fn lookup_fours(
-    entries: &[i32; 1024],
+    entries: &[i32; MOST_ENTRIES],
     last: u32,
     src: &[i32],
     from: usize,
@@ -153,7 +142,7 @@ fn lookup_fours(
     dst: &mut [i32],
     at: usize,
 ) -> usize
-    requires { ⌜ (last < 1024) × (from + n ≤ length (now src)) × (at + n ≤ length (now dst)) ⌝ }
+    requires { ⌜ (last < mostEntries) × (from + n ≤ length (now src)) × (at + n ≤ length (now dst)) ⌝ }
     ensures { λ r. ⌜ (r ≤ n) × (now (dst .exit) ≡ placed (now (dst .entry)) at (map (entryFor (now (entries .entry)) last) (plane (now (src .entry)) from r))) ⌝ }
 {
     let mut k = 0;
@@ -168,7 +157,7 @@ fn lookup_fours(
 }
 
 fn lookup_inside(
-    entries: &[i32; 1024],
+    entries: &[i32; MOST_ENTRIES],
     last: u32,
     src: &[i32],
     from: usize,
@@ -176,7 +165,7 @@ fn lookup_inside(
     dst: &mut [i32],
     at: usize,
 )
-    requires { ⌜ (last < 1024) × (from + n ≤ length (now src)) × (at + n ≤ length (now dst)) ⌝ }
+    requires { ⌜ (last < mostEntries) × (from + n ≤ length (now src)) × (at + n ≤ length (now dst)) ⌝ }
     ensures { λ _. ⌜ now (dst .exit) ≡ placed (now (dst .entry)) at (map (entryFor (now (entries .entry)) last) (plane (now (src .entry)) from n)) ⌝ }
 {
     let mut k = lookup_fours(entries, last, src, from, n, dst, at);
@@ -186,121 +175,30 @@ fn lookup_inside(
     }
 }
 
-// The same as copy_plane, with each sample looked up in column i of the palette; false, with nothing changed, also where the file has no such column.
+// The same as copy_plane, with each sample looked up in a column of s; false, with nothing changed, also where there is no such column.
 pub fn lookup_plane(
-    f: &[u8],
-    p: Palette,
-    i: u32,
+    s: &[u8],
+    k: Column,
     src: &[i32],
     from: usize,
     n: usize,
     dst: &mut [i32],
     at: usize,
 ) -> bool
-    ensures { λ r. ⌜ r ≡ done (noColumn (now (f .entry)) p i or outside (now (src .entry)) from n (now (dst .entry)) at) ⌝ }
-    ensures { λ _. ⌜ now (dst .exit) ≡ put (noColumn (now (f .entry)) p i or outside (now (src .entry)) from n (now (dst .entry)) at) (now (dst .entry)) at (map (lookup (now (f .entry)) p i) (plane (now (src .entry)) from n)) ⌝ }
+    ensures { λ r. ⌜ r ≡ done (noColumn k or outside (now (src .entry)) from n (now (dst .entry)) at) ⌝ }
+    ensures { λ _. ⌜ now (dst .exit) ≡ written (noColumn k or outside (now (src .entry)) from n (now (dst .entry)) at) (now (dst .entry)) at (map (picked (now (s .entry)) k) (plane (now (src .entry)) from n)) ⌝ }
 {
-    if !inside(src.len(), from, n) {
+    if no_column(k) {
         return false;
     }
-    if !inside(dst.len(), at, n) {
+    if box_number::lies_outside(src.len(), from, n) {
         return false;
     }
-    let mut entries = [0i32; 1024];
-    if !read_column(f, p, i, &mut entries) {
+    if box_number::lies_outside(dst.len(), at, n) {
         return false;
     }
-    lookup_inside(&entries, p.entries - 1, src, from, n, dst, at);
+    let mut entries = [0i32; MOST_ENTRIES];
+    read_column(s, k, &mut entries);
+    lookup_inside(&entries, k.entries - 1, src, from, n, dst, at);
     true
-}
-
-// One channel: with type 1 its component's samples are looked up in the palette's column c, else they are copied.
-pub fn put_channel(
-    f: &[u8],
-    p: Palette,
-    c: u32,
-    typ: u32,
-    src: &[i32],
-    from: usize,
-    n: usize,
-    dst: &mut [i32],
-    at: usize,
-) -> bool
-    ensures { λ r. ⌜ r ≡ done (typ =? 1 and noColumn (now (f .entry)) p c or outside (now (src .entry)) from n (now (dst .entry)) at) ⌝ }
-    ensures { λ _. ⌜ now (dst .exit) ≡ put (typ =? 1 and noColumn (now (f .entry)) p c or outside (now (src .entry)) from n (now (dst .entry)) at) (now (dst .entry)) at (map (valueFor (now (f .entry)) p c typ) (plane (now (src .entry)) from n)) ⌝ }
-{
-    if typ == 1 {
-        return lookup_plane(f, p, c, src, from, n, dst, at);
-    }
-    copy_plane(src, from, n, dst, at)
-}
-
-// What the channels of a picture are (`opj_jp2_apply_pclr` of jp2.rs): the record that counts, and a channel's type and the thirteen numbers of its record.
-
-// The record with the ignore flag taken into account: palette, mappings and definitions then count for nothing.
-pub fn counted(ignore: u32, m: Jp2) -> Jp2
-    ensures { λ r. ⌜ r ≡ counted ignore m ⌝ }
-{
-    if ignore == 0 {
-        return m;
-    }
-    let none = Span { place: 0, count: 0 };
-    let empty = Palette {
-        place: 0,
-        entries: 0,
-        columns: 0,
-    };
-    let mut lists = m.lists;
-    lists.pclr = empty;
-    lists.cmap = none;
-    lists.cdef = none;
-    let mut k = m;
-    k.lists = lists;
-    k
-}
-
-// The type of channel c: 1 where it is looked up in the palette.
-pub fn type_of(f: &[u8], l: Span, correct: bool, c: u32) -> u32
-    ensures { λ r. ⌜ r ≡ typeBy (now (f .entry)) l (flag correct) c ⌝ }
-{
-    if correct {
-        return 1;
-    }
-    if l.count == 0 {
-        return 0;
-    }
-    let list = box_number::part(f, l.place, f.len());
-    box_number::read_u8(list, 4 * c as usize + 2) as u32
-}
-
-// Number k of the record of channel c, whose component is r and whose samples start at a place; there are so many mappings.
-pub fn expanded_number(
-    f: &[u8],
-    p: Palette,
-    mappings: usize,
-    comps: &[u32],
-    c: u32,
-    r: u32,
-    start: u32,
-    k: u32,
-) -> u32
-    ensures { λ n. ⌜ n ≡ expandedFrom (now (f .entry)) p mappings (listed (now (comps .entry))) c r start k ⌝ }
-{
-    if k == 11 {
-        if read_record::component(comps, r, 11) == 4294967295 {
-            return 4294967295;
-        }
-        return start;
-    }
-    if mappings == 0 {
-        return read_record::component(comps, r, k);
-    }
-    let list = box_number::part(f, p.place, f.len());
-    if k == 6 {
-        return box_number::read_u8(list, c as usize) as u32 % 128 + 1;
-    }
-    if k == 8 {
-        return box_number::read_u8(list, c as usize) as u32 / 128;
-    }
-    read_record::component(comps, r, k)
 }

@@ -60,5 +60,5 @@ passed-same h g m a p =
     record {
       lists = p .lists;
       file = outside-same a (p .file);
-      checked = checked-same h g _ (agree-counted (h .ignore) a) (kept-counted (h .ignore) (kept (h .file) m (p .file))) (p .checked);
+      checked = checked-same h g _ (agree-counted (h .settings) a) (kept-counted (h .settings) (kept (h .file) m (p .file))) (p .checked);
     }

@@ -19,7 +19,8 @@ use Rattle.picture_rules.specs.Definitions.{Reordered}
 use Rattle.picture_rules.specs.Image.{Image}
 use Rattle.box_number.specs.Lowest.{lowest}
 use Rattle.picture_rules.specs.Channels.{mapped, channels, componentOf, typeOf}
-use Rattle.picture_rules.specs.Samples.{held, lookup, valueFor, valueOf, channelSamples, packed, startOf}
+use Rattle.picture_rules.specs.Samples.{clamped, lookup, valueFor, valueOf, channelSamples, packed, startOf}
+use Rattle.picture_rules.specs.Handed.{Settings}
 use Rattle.picture_rules.specs.Finish.{outsideFile, counted, expanded}
 use Rattle.box_number.proofs.Indices.{decide}
 use Rattle.picture_rules.proofs.Mappings.{Kept, channel-cases, mapped-channels, mapped-component, plain-component, plain-type}
@@ -31,10 +32,10 @@ pub record Agree (f g : List ℕ) (m : Jp2) : Type 0 where
   pub mappings : SameMappings f g m
   pub reordered : Reordered (definitions f (m .lists .cdef)) (definitions g (m .lists .cdef))
 
--- with what the ignore flag leaves of the record
-pub agree-counted : {f g : List ℕ} {m : Jp2} (ignore : ℕ) → Agree f g m → Agree f g (counted ignore m)
+-- with what the settings leave of the record
+pub agree-counted : {f g : List ℕ} {m : Jp2} (s : Settings) → Agree f g m → Agree f g (counted s m)
 unfolding counted definitionsTo
-agree-counted {f} {g} ignore a =
+agree-counted {f} {g} s a =
     each (Agree f g) _ (
       (λ _. a),
       λ _.
@@ -56,8 +57,8 @@ unfolding rowBytes
 rows-same f g at zero e = refl
 rows-same f g at (suc n) e = rw (rows-same f g at n (λ i l. e i (omega arith)), e n (omega arith))
 
-held-below : (s : ℤ) (n : ℕ) → 0 < n → held s (n - 1) < n
-held-below s n h = each (λ k. k < n) _ ((λ l. omega arith), λ _. omega arith)
+clamped-below : (s : ℤ) (n : ℕ) → 0 < n → clamped s (n - 1) < n
+clamped-below s n h = each (λ k. k < n) _ ((λ l. omega arith), λ _. omega arith)
 
 module _ {f g : List ℕ} {m : Jp2} (a : Agree f g m) where
   pub outside-same : Says false (outsideFile f m) → Says false (outsideFile g m)
@@ -86,7 +87,7 @@ module _ {f g : List ℕ} {m : Jp2} (a : Agree f g m) where
 
     lookup-same : (s : ℤ) → typeOf f m n c ≡ 1 → lookup g (m .lists .pclr) c s ≡ lookup f (m .lists .pclr) c s
     unfolding lookup
-    lookup-same s e = rw (a .palette .entry (held s (m .lists .pclr .entries - 1)) c (held-below s _ (k .entries (typed e))) (omega (arith, mapped-channels m n (typed e))))
+    lookup-same s e = rw (a .palette .entry (clamped s (m .lists .pclr .entries - 1)) c (clamped-below s _ (k .entries (typed e))) (omega (arith, mapped-channels m n (typed e))))
 
     value-same : (s : ℤ) → valueOf g m n c s ≡ valueOf f m n c s
     unfolding valueFor valueOf

@@ -9,8 +9,8 @@ use Rattle.picture_rules.specs.Image.{Image}
 use Rattle.picture_rules.specs.Channels.{channels}
 use Rattle.picture_rules.specs.Samples.{startOf}
 use Rattle.picture_rules.specs.Check.{misnamed, undefined, mismapped, dataless}
-use Rattle.picture_rules.specs.Finish.{Finishing, finished, declined, outsideLists, outsideFile, counted, picture, fitted, coloured, finish}
-use Rattle.picture_rules.specs.Words.{Handed}
+use Rattle.picture_rules.specs.Finish.{Finishing, finished, declined, outsideLists, outsideFile, counted, picture, fitted, colourChecks, checks, finish}
+use Rattle.picture_rules.specs.Handed.{Settings, Handed}
 use Rattle.box_number.proofs.Indices.{lowest-none, none-lowest}
 
 -- 25 to 28 and 30 pass
@@ -23,11 +23,11 @@ pub record Checked (h : Handed) (m : Jp2) : Type 0 where
   pub most : startOf (h .file) m (h .image) (channels m (h .image .count)) ≤ 4294967294
   pub sample-room : startOf (h .file) m (h .image) (channels m (h .image .count)) ≤ h .samples
 
--- and 29 too; with what the ignore flag leaves of the record
+-- and 29 too; with what the settings leave of the record
 pub record Passed (h : Handed) (m : Jp2) : Type 0 where
   pub lists : Says false (outsideLists (h .image))
   pub file : Says false (outsideFile (h .file) m)
-  pub checked : Checked h (counted (h .ignore) m)
+  pub checked : Checked h (counted (h .settings) m)
 
 -- what holds of the planes, where there are any
 abbrev Where : (Image → Type 0) → Finishing → Type 0
@@ -40,16 +40,16 @@ where-also step (declined number place) p = tt
 
 module _ (h : Handed) (m : Jp2) where
   abbrev pub finishing : Finishing
-  finishing = finish (h .file) m (h .ignore) (h .image) (h .records) (h .samples)
+  finishing = finish h m
 
   abbrev colouring : Finishing
-  colouring = coloured (h .file) m (h .image) (h .records) (h .samples)
+  colouring = colourChecks declined (h .file) m (h .image) (fitted (h .file) m (h .image) (h .records) (h .samples))
 
   abbrev pub made : Image
   made = picture (h .file) m (h .image)
 
   coloured-checked : Where (λ planes. Checked h m × (planes ≡ made)) colouring
-  unfolding fitted coloured
+  unfolding fitted colourChecks
   coloured-checked =
       each (Where (λ planes. Checked h m × (planes ≡ made))) _ (
         (λ _. tt),
@@ -57,10 +57,10 @@ module _ (h : Handed) (m : Jp2) where
           (λ _. tt),
           λ defined. (
             (λ _. tt),
-            λ mapping.
-                each (Where (λ planes. Checked h m × (planes ≡ made))) _ (
-                  (λ _. tt),
-                  λ lent. (
+            λ mapping. (
+              (λ _. tt),
+              λ lent.
+                  each (Where (λ planes. Checked h m × (planes ≡ made))) _ (
                     (λ _. tt),
                     λ room. (
                       (λ _. tt),
@@ -78,23 +78,23 @@ module _ (h : Handed) (m : Jp2) where
                       ),
                     ),
                   ),
-                ),
+            ),
           ),
         ),
       )
 
   checked-coloured : Checked h m → colouring ≡ finished made
-  unfolding fitted coloured
+  unfolding fitted colourChecks
   checked-coloured c =
-      sym (row 3 _ (none-lowest _ _ (c .named), (none-lowest _ _ (c .defined), (none-lowest _ _ (c .mapping), tt)))
-      (row 3 _ (none-lowest _ _ (c .lent), (c .record-room, ((c .most, c .sample-room), tt))) refl))
+      sym (row 4 _ (none-lowest _ _ (c .named), (none-lowest _ _ (c .defined), (none-lowest _ _ (c .mapping), (none-lowest _ _ (c .lent), tt))))
+      (row 2 _ (c .record-room, ((c .most, c .sample-room), tt)) refl))
 
 module _ (h : Handed) (m : Jp2) where
   abbrev k : Jp2
-  k = counted (h .ignore) m
+  k = counted (h .settings) m
 
   finish-passed : Where (λ planes. Passed h m × (planes ≡ made h k)) (finishing h m)
-  unfolding finish
+  unfolding finish checks
   finish-passed =
       each (Where (λ planes. Passed h m × (planes ≡ made h k))) _ (
         (λ _. tt),
@@ -106,7 +106,7 @@ module _ (h : Handed) (m : Jp2) where
   passed planes e = subst (Where (λ planes. Passed h m × (planes ≡ made h k))) e finish-passed
 
   pub passes : Passed h m → finishing h m ≡ finished (made h k)
-  unfolding finish
+  unfolding finish checks
   passes p = sym (row 1 _ ((p .lists, p .file), tt) (sym (checked-coloured h k (p .checked))))
 
 -- a picture with palette, mappings and definitions applied
@@ -116,12 +116,12 @@ pub record Applied (h : Handed) (m : Jp2) (planes : Image) : Type 0 where
   pub checked : Checked h m
   pub is-made : planes ≡ made h m
 
-counted-all : (ignore : ℕ) (m : Jp2) → ignore ≡ 0 → counted ignore m ≡ m
+pub counted-all : (s : Settings) (m : Jp2) → s .ignore ≡ 0 → counted s m ≡ m
 unfolding counted
-counted-all ignore m e = sym (row 0 _ e refl)
+counted-all s m e = sym (row 0 _ e refl)
 
-pub applied : (h : Handed) (m : Jp2) (planes : Image) → h .ignore ≡ 0 → finishing h m ≡ finished planes → Applied h m planes
+pub applied : (h : Handed) (m : Jp2) (planes : Image) → h .settings .ignore ≡ 0 → finishing h m ≡ finished planes → Applied h m planes
 applied h m planes z e =
     let p = passed h m planes e in
-    let all = counted-all (h .ignore) m z in
+    let all = counted-all (h .settings) m z in
     record { lists = p .0 .lists; file = p .0 .file; checked = subst (Checked h) all (p .0 .checked); is-made = p .1 ∙ ap (made h) all }

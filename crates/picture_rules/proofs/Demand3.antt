@@ -19,7 +19,7 @@ pub picture-rule : PictureRule
 picture-rule h m planes accepted defined clear = alone (RightPlanes h m) planes (right-in-place h m planes accepted defined clear [] [])
 
 pub every-picture : EveryPicture
-every-picture h m planes accepted = alone (EveryPlane h (counted (h .ignore) m)) planes (every-in-place h m planes accepted [] [])
+every-picture h m planes accepted = alone (EveryPlane h (counted (h .settings) m)) planes (every-in-place h m planes accepted [] [])
 
 pub order-freedom : OrderFreedom
 order-freedom = order-freedom-from order-free

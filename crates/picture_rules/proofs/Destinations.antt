@@ -25,8 +25,8 @@ right-in-place h m planes accepted defined clear d e =
 
 pub every-in-place :
     (h : Handed) (m : Jp2) (planes : Image) → Accepted h m planes →
-    (d : List ℕ) (e : List ℤ) → EveryPlane h (counted (h .ignore) m) (image (planes .components ++ d) (planes .count) (planes .samples ++ e))
+    (d : List ℕ) (e : List ℤ) → EveryPlane h (counted (h .settings) m) (image (planes .components ++ d) (planes .count) (planes .samples ++ e))
 every-in-place h m planes accepted d e =
     let y = passed h m planes (accepted .finishing) in
-    subst (λ made. EveryPlane h (counted (h .ignore) m) (image (made .components ++ d) (made .count) (made .samples ++ e))) (sym (y .1))
-    (every h (counted (h .ignore) m) d e order-pairs (y .0 .checked) (y .0 .lists) (kept-counted (h .ignore) (kept (h .file) m (y .0 .file))))
+    subst (λ made. EveryPlane h (counted (h .settings) m) (image (made .components ++ d) (made .count) (made .samples ++ e))) (sym (y .1))
+    (every h (counted (h .settings) m) d e order-pairs (y .0 .checked) (y .0 .lists) (kept-counted (h .settings) (kept (h .file) m (y .0 .file))))

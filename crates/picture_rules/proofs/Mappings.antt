@@ -12,7 +12,7 @@ use Rattle.picture_rules.specs.Image.{Image}
 use Rattle.picture_rules.specs.Channels.{mapped, channels, componentOf, typeOf}
 use Rattle.picture_rules.specs.Check.{mismapped}
 use Rattle.picture_rules.specs.Finish.{outsideLists, outsideFile, counted}
-use Rattle.picture_rules.specs.Words.{Handed}
+use Rattle.picture_rules.specs.Handed.{Settings, Handed}
 use Rattle.box_number.proofs.Indices.{lowest-none}
 use Rattle.picture_rules.proofs.Packs.{Within}
 use Rattle.picture_rules.proofs.Checks.{Checked}
@@ -29,10 +29,10 @@ kept f m inside =
       entries = λ h. let e = inside .1 .0 h .0 in omega (arith, inside .0 (λ z. h (omega arith)) .0);
     }
 
--- also where the ignore flag leaves nothing of the lists
-pub kept-counted : {m : Jp2} (ignore : ℕ) → Kept m → Kept (counted ignore m)
+-- also where the settings leave nothing of the lists
+pub kept-counted : {m : Jp2} (s : Settings) → Kept m → Kept (counted s m)
 unfolding counted
-kept-counted ignore k = each Kept _ ((λ _. k), λ _. record { columns = λ h. absurd (h refl); entries = λ h. absurd (h refl) })
+kept-counted s k = each Kept _ ((λ _. k), λ _. record { columns = λ h. absurd (h refl); entries = λ h. absurd (h refl) })
 
 -- there are at most 16384 channels
 pub channels-few : (f : List ℕ) (m : Jp2) (i : Image) → Says false (outsideLists i) → Says false (outsideFile f m) → channels m (i .count) ≤ 16384

@@ -34,7 +34,7 @@ use Rattle.picture_rules.specs.Image.{Image, size}
 use Rattle.box_number.specs.Lowest.{lowest}
 use Rattle.picture_rules.specs.Channels.{channels, componentOf, typeOf}
 use Rattle.picture_rules.specs.Samples.{displayed, lookup, valueFor, valueOf, channelSamples, packed, startOf}
-use Rattle.picture_rules.specs.Finish.{counted, expanded, picture, fitted, coloured, finish}
+use Rattle.picture_rules.specs.Finish.{counted, expanded, picture, fitted, colourChecks, checks, finish}
 use Rattle.picture_rules.specs.Words.{Handed, Accepted}
 use Rattle.picture_rules.specs.Met.{otherwise-turned, directFile, direct, directPlanes, palettedFile, paletted, palettedPlanes, Met, DirectMet, PaletteMet}
 use Rattle.picture_rules.proofs.Distinct.{once-pairwise, swapped, alike-parts}
@@ -51,7 +51,7 @@ module _ (h : Handed) (planes : Image) (g : List ℕ) (m : Jp2) (p : ℕ) where
   c = def 2 0 1
 
   met :
-      Accepted h m planes → h .ignore ≡ 0 → m .lists .cdef ≡ span p 3 → definitions (h .file) (span p 3) ≡ a ∷ b ∷ c ∷ [] → definitions g (span p 3) ≡ b ∷ a ∷ c ∷ [] →
+      Accepted h m planes → h .settings .ignore ≡ 0 → m .lists .cdef ≡ span p 3 → definitions (h .file) (span p 3) ≡ a ∷ b ∷ c ∷ [] → definitions g (span p 3) ≡ b ∷ a ∷ c ∷ [] →
       Alike (h .file) g (range p 18) → (g ≡ h .file → ⊥) → Met h planes g
   met y applied place here there alike other =
       record {
@@ -70,7 +70,7 @@ keptOf (refused number place) = blank
 
 -- what reading and finishing compute with
 computing : ℕ
-unfolding table number part kindOf headerLength boxLength withBit signature fileType ihdr bpcc lab colr entryBytes rowBytes pclr cmap cdef split readAll lacksIhdr jp2h outer run walk definitionsTo exchange define order.run size lowest channels componentOf typeOf displayed lookup valueFor valueOf channelSamples packed startOf Cji counted expanded flat picture fitted coloured finish
+unfolding table number part kindOf headerLength boxLength withBit signature fileType ihdr bpcc lab colr entryBytes rowBytes pclr cmap cdef split readAll lacksIhdr jp2h outer run walk definitionsTo exchange define order.run size lowest channels componentOf typeOf displayed lookup valueFor valueOf channelSamples packed startOf Cji counted expanded flat picture fitted colourChecks checks finish
 computing = 0
 
 pub direct-met : DirectMet

@@ -25,17 +25,19 @@ use Rattle.read_channels.specs.Definitions.{Def, def, definitionsTo}
 use Rattle.picture_rules.specs.Order.{exchange, define}
 use Rattle.picture_rules.specs.Flat.{flat}
 use Rattle.picture_rules.specs.Order as order
+use Rattle.read_record.specs.Component.{alpha}
 use Rattle.picture_rules.specs.Image.{Image, component, sampleAt, size}
+use Rattle.picture_rules.specs.Handed.{settings}
 use Rattle.box_number.specs.Lowest.{lowest}
 use Rattle.picture_rules.specs.Channels.{channels, componentOf, typeOf}
 use Rattle.picture_rules.specs.Samples.{displayed, lookup, valueFor, valueOf, channelSamples, packed, startOf}
-use Rattle.picture_rules.specs.Finish.{Finishing, finished, declined, counted, expanded, picture, fitted, coloured, finish}
+use Rattle.picture_rules.specs.Finish.{Finishing, finished, declined, counted, expanded, picture, fitted, colourChecks, checks, finish}
 
 -- LBox, TBox and the content
 abbrev pub box : ℕ → List ℕ → List ℕ
 box type content = bytes 4 (8 + length content) ++ bytes 4 type ++ content
 
--- so many columns of 8 bits, and the rows one after the other
+-- columns of 8 bits, and the rows one after the other
 abbrev pub paletteBox : ℕ → ℕ → List ℕ → List ℕ
 paletteBox entries columns rows = box 0x70636c72 (bytes 2 entries ++ bytes 1 columns ++ replicate columns 7 ++ rows)
 
@@ -59,7 +61,7 @@ fileOf n boxes =
     box 0x6a502020 (bytes 4 0x0d0a870a) ++ box 0x66747970 (bytes 4 0x6a703220 ++ bytes 4 0 ++ bytes 4 0x6a703220)
     ++ box 0x6a703268 (box 0x69686472 (bytes 4 1 ++ bytes 4 1 ++ bytes 2 n ++ 7 ∷ 7 ∷ 0 ∷ 0 ∷ []) ++ boxes)
 
--- components of 1 by 1 and 8 bits without a mark, whose samples stand from an index on
+-- components of 1 by 1 and 8 bits without a mark, whose samples start at an index
 abbrev pub onePoint : ℕ → List ℤ → List ℕ
 onePoint at [] = []
 onePoint at (s ∷ ss) = 1 ∷ 1 ∷ 1 ∷ 1 ∷ 0 ∷ 0 ∷ 8 ∷ 0 ∷ 0 ∷ 0 ∷ 0 ∷ at ∷ 0 ∷ onePoint (suc at) ss
@@ -72,10 +74,10 @@ infix 70 _mark_
 pub data Plane : Type 0 where
   _mark_ : ℤ → ℕ → Plane
 
--- what a picture comes to: its planes in their order, or a number and what goes with it
+-- the result of finishing a picture: its planes in their order, or a number and what goes with it
 pub data Shown : Type 0 where
   planes : List Plane → Shown
-  turnedDown : ℕ → ℕ → Shown
+  refusedWith : ℕ → ℕ → Shown
 
 -- a table of components, the boxes in jp2h, and what comes
 infixr 20 _with_gives_∣_
@@ -112,22 +114,22 @@ cases =
     pos 3 ∷ [] with paletteBox 3 1 (10 ∷ 20 ∷ 30 ∷ []) ++ mappingBox (mapping 0 1 0) gives planes (pos 30 mark 0 ∷ []) ∣
     -- two components, only (1,0,2): passes; only (0,0,1): 26
     A ∷ B ∷ [] with definitionBox (def 1 0 2 ∷ []) gives planes (A mark 0 ∷ B mark 0 ∷ []) ∣
-    A ∷ B ∷ [] with definitionBox (def 0 0 1 ∷ []) gives turnedDown 26 1 ∣
+    A ∷ B ∷ [] with definitionBox (def 0 0 1 ∷ []) gives refusedWith 26 1 ∣
     end
 
 -- the first n planes of a finished picture
 abbrev pub planesTo : Image → ℕ → List Plane
 planesTo i zero = []
-planesTo i (suc n) = planesTo i n ++ (sampleAt i n 0 0 mark component i n 12 ∷ [])
+planesTo i (suc n) = planesTo i n ++ (sampleAt i n 0 0 mark component i n alpha ∷ [])
 
 abbrev pub shown : Finishing → Shown
 shown (finished i) = planes (planesTo i (i .count))
-shown (declined number index) = turnedDown number index
+shown (declined number index) = refusedWith number index
 
 -- finished with the record from reading, in destinations for four planes
 abbrev pub finishedWith : List ℕ → Image → Result → Shown
-finishedWith f i (accepted m) = shown (finish f m 0 i 52 4)
-finishedWith f i (refused number place) = turnedDown number place
+finishedWith f i (accepted m) = shown (finish (record { file = f; image = i; settings = settings 0; records = 52; samples = 4 }) m)
+finishedWith f i (refused number place) = refusedWith number place
 
 abbrev pub come : Cases → List Shown
 come end = []
@@ -138,5 +140,5 @@ told end = []
 told (ss with boxes gives o ∣ rest) = o ∷ told rest
 
 pub marked : come cases ≡ told cases
-unfolding table number part bytes kindOf headerLength boxLength withBit signature fileType ihdr entryBytes rowBytes Cji pclr cmap cdef split readAll lacksIhdr jp2h outer file.run walk definitionsTo exchange define order.run size lowest channels componentOf typeOf displayed lookup valueFor valueOf channelSamples packed startOf counted expanded flat picture fitted coloured finish
+unfolding table number part bytes kindOf headerLength boxLength withBit signature fileType ihdr entryBytes rowBytes Cji pclr cmap cdef split readAll lacksIhdr jp2h outer file.run walk definitionsTo exchange define order.run size lowest channels componentOf typeOf displayed lookup valueFor valueOf channelSamples packed startOf counted expanded flat picture fitted colourChecks checks finish
 marked = refl

@@ -5,12 +5,13 @@ use Rattle.box_number.specs.Table.{Test, _=?_, _≠?_, _<?_, _or_, _and_}
 use Rattle.read_record.specs.declared.Span.{Span}
 use Rattle.read_channels.specs.Cmap.{CMP, MTYP, PCOL}
 use Rattle.read_channels.specs.Cdef.{Cn, Asoc}
+use Rattle.picture_rules.specs.Definitions.{wholeImage, unassociated}
 use Rattle.picture_rules.specs.Image.{Image, first, none}
 use Rattle.box_number.specs.Lowest.{lowest}
 
 -- 25: definition j of a list names a channel, or a colour, that is not below n channels
 abbrev pub misnamed : List ℕ → Span → ℕ → ℕ → Test
-misnamed f l n j = n <? Cn f l j + 1 or (Asoc f l j ≠? 0 and Asoc f l j ≠? 65535 and n <? Asoc f l j)
+misnamed f l n j = n <? Cn f l j + 1 or (Asoc f l j ≠? wholeImage and Asoc f l j ≠? unassociated and n <? Asoc f l j)
 
 -- 26: channel c, from 1 up, has no definition in a list that has some
 abbrev pub undefined : List ℕ → Span → ℕ → Test

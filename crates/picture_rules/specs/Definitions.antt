@@ -7,6 +7,13 @@ use lib.Dec.{eqb}
 use Rattle.box_number.specs.Table.{pick}
 use Rattle.read_channels.specs.Definitions.{Def}
 
+-- an association with the whole image, and with nothing in particular
+abbrev pub wholeImage : ℕ
+wholeImage = 0
+
+abbrev pub unassociated : ℕ
+unassociated = 65535
+
 -- a colour definition: typ 0, asoc 1 to 65534
 abbrev pub Colour : Def → Type 0
 Colour d = (d .typ ≡ 0) × (1 ≤ d .asoc) × (d .asoc ≤ 65534)
@@ -15,7 +22,7 @@ Colour d = (d .typ ≡ 0) × (1 ≤ d .asoc) × (d .asoc ≤ 65534)
 unfoldable pub same : Def → Def → Bool
 same d e = eqb (d .channel) (e .channel) && eqb (d .typ) (e .typ) && eqb (d .asoc) (e .asoc)
 
--- how often d stands in a list
+-- how often d occurs in a list
 unfoldable pub times : Def → List Def → ℕ
 times d [] = 0
 times d (e ∷ es) = pick (same d e) (suc (times d es)) (times d es)

@@ -1,4 +1,4 @@
--- What holds of every finished picture, with no premise on its definitions: they may clash, be absent, or count for nothing because of the ignore flag.
+-- What holds of every finished picture, with no premise on its definitions: they may clash, be absent, or count for nothing because of the settings.
 use Prim.Native.Nat.{ℕ, _<_}
 use mathlib.Core.Path.{_≡_}
 use Rattle.read_record.specs.declared.Jp2.{Jp2}
@@ -12,6 +12,6 @@ pub record EveryPlane (h : Handed) (m : Jp2) (planes : Image) : Type 0 where
   pub filled : FilledPlanes h m planes
   pub in-order : m .lists .cdef .count ≡ 0 → (c : ℕ) → c < planes .count → filled .pairing .to c ≡ c
 
--- with what the ignore flag leaves of the record
+-- with what the settings leave of the record
 abbrev pub EveryPicture : Type 0
-EveryPicture = (h : Handed) (m : Jp2) (planes : Image) → Accepted h m planes → EveryPlane h (counted (h .ignore) m) planes
+EveryPicture = (h : Handed) (m : Jp2) (planes : Image) → Accepted h m planes → EveryPlane h (counted (h .settings) m) planes

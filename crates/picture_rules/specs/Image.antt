@@ -1,9 +1,10 @@
--- A picture as it is handed in, and as it is finished: components of 13 numbers each in one list, and one list of samples.
+-- A picture before it is finished, and after: components of thirteen numbers each in one list, and one list of samples.
 use Prim.Native.Nat.{ℕ, _+_, _*_}
-use mathlib.Core.List.{List}
+use mathlib.Core.List.{List, []}
 use lib.IntN.{ℤ, pos}
 use lib.ListN.{getD}
 use Rattle.box_number.specs.Table.{_=?_, otherwise, _⇒_∣_, table}
+use Rattle.read_record.specs.Component as comp
 
 pub record Image : Type 0 where
   pub components : List ℕ
@@ -13,24 +14,35 @@ pub record Image : Type 0 where
 abbrev pub image : List ℕ → ℕ → List ℤ → Image
 image components count samples = record { components = components; count = count; samples = samples }
 
--- number k of component c, in the order of the crate's opj_image_comp: dx, dy, w, h, x0, y0, prec, bpp, sgnd, resno_decoded, factor, data, alpha
+-- components without their samples
+abbrev pub listed : List ℕ → Image
+listed components = image components 0 []
+
+-- number k of component c, by its name in Component.antt of read_record
 abbrev pub component : Image → ℕ → ℕ → ℕ
-component i c k = getD (i .components) (13 * c + k) 0
+component i c k = getD (i .components) (comp.numbersEach * c + k) 0
 
 abbrev pub width : Image → ℕ → ℕ
-width i c = component i c 2
+width i c = component i c comp.w
 
 abbrev pub height : Image → ℕ → ℕ
-height i c = component i c 3
+height i c = component i c comp.h
 
 -- data: the first sample's index, or none
 abbrev pub first : Image → ℕ → ℕ
-first i c = component i c 11
+first i c = component i c comp.«data»
 
 abbrev pub none : ℕ
-none = 4294967295
+none = comp.noData
 
--- where the sample at row y, column x stands, of a plane whose first sample stands at an index
+-- the most components and the most samples of a picture
+abbrev pub mostComponents : ℕ
+mostComponents = 16384
+
+abbrev pub mostSamples : ℕ
+mostSamples = 4294967294
+
+-- the index of the sample at row y, column x, in a plane whose first sample has the index `start`
 abbrev pub indexOf : ℕ → ℕ → ℕ → ℕ → ℕ
 indexOf start w y x = start + y * w + x
 

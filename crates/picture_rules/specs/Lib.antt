@@ -4,6 +4,7 @@ pub mod Flat
 pub mod Rules
 pub mod OrderCases
 pub mod Image
+pub mod Handed
 pub mod Channels
 pub mod Samples
 pub mod Check

@@ -6,7 +6,8 @@ use lib.IntN.{pos}
 use Rattle.read_record.specs.declared.Jp2.{Jp2}
 use Rattle.read_rules.specs.Files.{two, box, ihdrBox, picture as fileOf}
 use Rattle.picture_rules.specs.Image.{Image, image}
-use Rattle.picture_rules.specs.Words.{Handed, Accepted, Defined, Clear}
+use Rattle.picture_rules.specs.Handed.{Handed, settings}
+use Rattle.picture_rules.specs.Words.{Accepted, Defined, Clear}
 use Rattle.picture_rules.specs.OrderFreedom.{AlikeButOrder}
 
 -- one definition, or mapping, as it is written
@@ -32,7 +33,7 @@ plane wide start = 1 ∷ 1 ∷ wide ∷ 1 ∷ 0 ∷ 0 ∷ 8 ∷ 8 ∷ 0 ∷ 0 �
 
 -- with the file and the image, and room for three planes and their samples
 abbrev pub handed : List ℕ → Image → ℕ → Handed
-handed file picture room = record { file = file; image = picture; ignore = 0; records = 39; samples = room }
+handed file picture room = record { file = file; image = picture; settings = settings 0; records = 39; samples = room }
 
 -- three components of one sample each
 abbrev pub directFile : List ℕ → List ℕ

@@ -2,9 +2,11 @@
 use Prim.Native.Nat.{ℕ, _+_, _-_}
 use mathlib.Core.List.{List, [], _∷_}
 use Rattle.box_number.specs.Table.{_=?_, _<?_, _or_, _and_, otherwise, _⇒_∣_, table}
+use Rattle.read_record.specs.Component.{alpha}
 use Rattle.read_channels.specs.Definitions.{Def}
+use Rattle.picture_rules.specs.Definitions.{wholeImage, unassociated}
 
--- where each channel stands, and number k of the record at each position
+-- the position of each channel, and number k of the record at each position
 pub record Arranged : Type 0 where
   pub seat : ℕ → ℕ
   pub records : ℕ → ℕ → ℕ
@@ -19,7 +21,7 @@ swapped p q a = record { seat = λ c. exchange p q (a .seat c); records = λ r k
 
 -- the record at position p takes a mark, its last number
 abbrev pub marked : ℕ → ℕ → Arranged → Arranged
-marked p typ a = record { seat = a .seat; records = λ r k. table (r =? p and k =? 12 ⇒ typ ∣ otherwise (a .records r k)) }
+marked p typ a = record { seat = a .seat; records = λ r k. table (r =? p and k =? alpha ⇒ typ ∣ otherwise (a .records r k)) }
 
 -- one definition. A current position, or a wanted one, without a record passes it over; asoc 0 or 65535 only marks; a colour's record swaps to its place, and the
 -- record that is then at the old position takes the mark (difference 31).
@@ -28,7 +30,7 @@ define n d a =
     let p = a .seat (d .channel) in
     table
     (n <? p + 1 ⇒ a
-    ∣ d .asoc =? 0 or d .asoc =? 65535 ⇒ marked p (d .typ) a
+    ∣ d .asoc =? wholeImage or d .asoc =? unassociated ⇒ marked p (d .typ) a
     ∣ n <? d .asoc ⇒ a
     ∣ d .typ =? 0 ⇒ marked p 0 (swapped p (d .asoc - 1) a)
     ∣ otherwise (marked p (d .typ) a))
@@ -37,6 +39,6 @@ unfoldable pub run : ℕ → List Def → Arranged → Arranged
 run n [] a = a
 run n (d ∷ ds) a = run n ds (define n d a)
 
--- from the start, where channel c stands at position c
+-- from the start, where channel c is at position c
 abbrev pub arranged : ℕ → List Def → (ℕ → ℕ → ℕ) → Arranged
 arranged n ds records = run n ds (record { seat = λ c. c; records = records })

@@ -1,8 +1,9 @@
--- The marked cases of document 01 on order, as one table that is computed whole. Planes are named by the record that stands there; every record has mark 9 at the start.
+-- The marked cases of document 01 on order, as one table that is computed whole. Planes are named by the record at their position; every record has mark 9 at the start.
 use Prim.Native.Nat.{ℕ, zero, suc}
 use mathlib.Core.Path.{_≡_, refl}
 use mathlib.Core.List.{List, [], _∷_, _++_}
 use Rattle.box_number.specs.Table.{_=?_, otherwise, _⇒_∣_, table}
+use Rattle.read_record.specs.Component.{alpha}
 use Rattle.read_channels.specs.Definitions.{Def, def}
 use Rattle.picture_rules.specs.Order.{exchange, define, run, arranged}
 
@@ -42,11 +43,11 @@ cases =
 
 -- the record of channel r before any definition
 unfoldable pub fresh : ℕ → ℕ → ℕ
-fresh r k = table (k =? 12 ⇒ 9 ∣ otherwise r)
+fresh r k = table (k =? alpha ⇒ 9 ∣ otherwise r)
 
 unfoldable pub finished : ℕ → (ℕ → ℕ → ℕ) → List Plane
 finished zero records = []
-finished (suc p) records = finished p records ++ (records p 0 mark records p 12 ∷ [])
+finished (suc p) records = finished p records ++ (records p 0 mark records p alpha ∷ [])
 
 abbrev pub given : Cases → List (List Plane)
 given end = []

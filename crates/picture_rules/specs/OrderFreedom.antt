@@ -4,6 +4,7 @@ use mathlib.Core.Path.{_≡_}
 use mathlib.Core.List.{List}
 use Rattle.read_record.specs.declared.Jp2.{Jp2}
 use Rattle.read_record.specs.Answer.{accepted}
+use Rattle.read_record.specs.Component.{alpha}
 use Rattle.read_file.specs.File.{read}
 use Rattle.read_rules.specs.Alike.{given, Alike}
 use Rattle.read_rules.specs.Alike as reading
@@ -14,9 +15,9 @@ use Rattle.picture_rules.specs.Words.{Handed, Accepted, IsAccepted, Defi
 
 -- the same picture with another file
 abbrev pub withFile : List ℕ → Handed → Handed
-withFile g h = record { file = g; image = h .image; ignore = h .ignore; records = h .records; samples = h .samples }
+withFile g h = record { file = g; image = h .image; settings = h .settings; records = h .records; samples = h .samples }
 
--- pictures alike in all but the order of definitions, of which the first file is read: everything handed in is equal, except that the definition list in the file holds the
+-- pictures alike in all but the order of definitions, of which the first file is read: all inputs are equal, except that the definition list in the file holds the
 -- same definitions, each as often, in another order
 pub record AlikeButOrder (h : Handed) (g : List ℕ) (m : Jp2) : Type 0 where
   pub reads : given (read (h .file)) ≡ accepted m
@@ -26,7 +27,7 @@ pub record AlikeButOrder (h : Handed) (g : List ℕ) (m : Jp2) : Type 0 where
 -- equal finished records, marks aside, and equal finished samples
 pub record SamePlanes (planes others : Image) : Type 0 where
   pub count : others .count ≡ planes .count
-  pub records : (p k : ℕ) → p < planes .count → k < 12 → component others p k ≡ component planes p k
+  pub records : (p k : ℕ) → p < planes .count → k < alpha → component others p k ≡ component planes p k
   pub samples : others .samples ≡ planes .samples
 
 pub record OrderFreedom : Type 0 where

@@ -3,6 +3,7 @@ use Prim.Native.Nat.{ℕ, _-_, _≤_, _<_}
 use mathlib.Core.Path.{_≡_}
 use mathlib.Core.List.{List}
 use lib.ListN.{length, getD}
+use Rattle.read_record.specs.Component.{alpha}
 use Rattle.read_channels.specs.Definitions.{Def, def}
 use Rattle.picture_rules.specs.Definitions.{Colour, times, Reordered}
 use Rattle.picture_rules.specs.Order.{arranged}
@@ -24,17 +25,17 @@ Once ds =
     let e = getD ds j (def 0 0 0) in
     (d .channel ≡ e .channel → ⊥) × (Colour d → Colour e → d .asoc ≡ e .asoc → ⊥)
 
--- a run of definitions pairs the channels with the positions: the record of channel c, its mark aside, stands at `to c`
+-- a run of definitions pairs the channels with the positions: the record of channel c, its mark aside, is at position `to c`
 pub record Paired (n : ℕ) (ds : List Def) (records : ℕ → ℕ → ℕ) : Type 0 where
   pub pairing : Pairing n
   pub seats : (c : ℕ) → c < n → arranged n ds records .seat c ≡ pairing .to c
-  pub stands : (c k : ℕ) → c < n → k < 12 → arranged n ds records .records (pairing .to c) k ≡ records c k
+  pub stands : (c k : ℕ) → c < n → k < alpha → arranged n ds records .records (pairing .to c) k ≡ records c k
 
 -- clashing definitions too
 abbrev pub OrderPairs : Type 0
 OrderPairs = (n : ℕ) (ds : List Def) (records : ℕ → ℕ → ℕ) → Paired n ds records
 
--- where definitions clash nowhere, the channel of a colour definition stands where its colour number says
+-- where definitions clash nowhere, the channel of a colour definition is at the position that its colour number gives
 abbrev pub ColourLands : Type 0
 ColourLands =
     (n : ℕ) (ds : List Def) (records : ℕ → ℕ → ℕ) → Once ds →
@@ -45,4 +46,4 @@ ColourLands =
 abbrev pub OrderFree : Type 0
 OrderFree =
     (n : ℕ) (ds es : List Def) (records : ℕ → ℕ → ℕ) → n < 65536 → Once ds → Reordered ds es →
-    (p k : ℕ) → k < 12 → arranged n ds records .records p k ≡ arranged n es records .records p k
+    (p k : ℕ) → k < alpha → arranged n ds records .records p k ≡ arranged n es records .records p k

@@ -17,8 +17,8 @@ floored (pos n) = n
 floored (negsuc n) = 0
 
 -- and above the last the last
-abbrev pub held : ℤ → ℕ → ℕ
-held s last = least (floored s) last
+abbrev pub clamped : ℤ → ℕ → ℕ
+clamped s last = least (floored s) last
 
 -- an entry of 2^31 or more becomes itself minus 2^32; one of fewer bits is not extended by its sign (difference 30)
 unfoldable pub displayed : ℕ → ℤ
@@ -26,7 +26,7 @@ displayed e = table (e <? 2147483648 ⇒ pos e ∣ otherwise (pos e -ℤ pos 429
 
 -- what column i of a palette in the file f gives for a sample
 unfoldable pub lookup : List ℕ → Palette → ℕ → ℤ → ℤ
-lookup f p i s = displayed (Cji f p (held s (p .entries - 1)) i)
+lookup f p i s = displayed (Cji f p (clamped s (p .entries - 1)) i)
 
 -- what a channel c of a type makes of a sample of its component: with type 1 what column c of the palette gives for it, else the sample itself
 unfoldable pub valueFor : List ℕ → Palette → ℕ → ℕ → ℤ → ℤ

@@ -1,7 +1,6 @@
 -- Document 01, "Words of demand 3", each as a definition.
 use Prim.Native.Nat.{ℕ, _<_}
 use mathlib.Core.Path.{_≡_}
-use mathlib.Core.List.{List}
 use lib.IntN.{ℤ}
 use Rattle.read_record.specs.declared.Jp2.{Jp2}
 use Rattle.read_record.specs.Answer.{accepted}
@@ -9,23 +8,16 @@ use Rattle.read_file.specs.File.{read}
 use Rattle.read_rules.specs.Alike.{given}
 use Rattle.read_channels.specs.Definitions.{definitions}
 use Rattle.picture_rules.specs.Rules.{Once}
+pub use Rattle.picture_rules.specs.Handed.{Handed}
 use Rattle.picture_rules.specs.Image.{Image, width, height, first, none, sampleAt}
 use Rattle.picture_rules.specs.Channels.{componentOf}
 use Rattle.picture_rules.specs.Samples.{valueOf}
 use Rattle.picture_rules.specs.Finish.{finished, finish}
 
--- all that is handed in: the file's bytes, the components and their samples, the ignore flag, and the lengths of the two destinations
-pub record Handed : Type 0 where
-  pub file : List ℕ
-  pub image : Image
-  pub ignore : ℕ
-  pub records : ℕ
-  pub samples : ℕ
-
 -- file and image are accepted: reading answers no number, and finishing with the record from reading answers none
 pub record Accepted (h : Handed) (m : Jp2) (planes : Image) : Type 0 where
   pub reading : given (read (h .file)) ≡ accepted m
-  pub finishing : finish (h .file) m (h .ignore) (h .image) (h .records) (h .samples) ≡ finished planes
+  pub finishing : finish h m ≡ finished planes
 
 -- accepted, with some record and some planes
 abbrev pub IsAccepted : Handed → Type 0
@@ -34,7 +26,7 @@ IsAccepted h = (m : Jp2) × (planes : Image) × Accepted h m planes
 -- definitions are present, and applied
 pub record Defined (h : Handed) (m : Jp2) : Type 0 where
   pub present : 0 < m .lists .cdef .count
-  pub applied : h .ignore ≡ 0
+  pub applied : h .settings .ignore ≡ 0
 
 -- no channel is defined twice, and no colour number given twice
 abbrev pub Clear : Handed → Jp2 → Type 0

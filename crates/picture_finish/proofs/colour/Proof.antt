@@ -7,12 +7,12 @@ use lib.ListN.{length}
 use Rattle.picture_rules.specs.Image.{image}
 use Rattle.picture_rules.specs.Finish.{fitted}
 use Rattle.picture_finish.proofs.Rooms.{channels-most, planes-are}
-use Rattle.picture_finish.proofs.Colours.{refused-done, definitions-few, long-enough, finished-done}
+use Rattle.picture_finish.proofs.Colours.{refused-done, long-enough, finished-done}
 use Rattle.picture_finish.proofs.colour.Statement.{statement}
 use Rattle.picture_finish.proofs.colour.Tie as tie
 
 room-requires : tie.Need-room-requires
-room-requires c κs = c .before .before .before .pre .0
+room-requires c κs = (c .before .before .before .pre .0, c .before .before .before .pre .1 .0)
 
 enum-known-number : tie.Need-enum-known-number
 enum-known-number c = search needs
@@ -22,20 +22,17 @@ enum-known-n c = search needs
 
 opj-jp2-apply-pclr-requires : tie.Need-opj-jp2-apply-pclr-requires
 opj-jp2-apply-pclr-requires c κs =
-    let b = c .before .before .before .before .before .before .before .before .before in
-    let a = b .args in
-    (b .pre .0, (b .pre .1, planes-are (a .f .now) (a .m) (a .comps .now) (a .count) (a .samples .now) (length (a .records .now)) (length (a .planes .now)) (sym (c .before .before .before .n .given .1) ∙ c .before .before .before .before .before .room .ensures) .1))
+    let a = c .before .before .before .before .before .before .before .before .before .args in
+    (c .before .before .before .before .before .before .before .before .before .pre .0, (c .before .before .before .before .before .before .before .before .before .pre .1 .1, planes-are (a .f .now) (a .m) (a .comps .now) (a .count) (a .samples .now) (length (a .records .now)) (length (a .planes .now)) (sym (c .before .before .before .n .given .1) ∙ c .before .before .before .before .before .room .ensures) .1))
 
 order-requires : tie.Need-order-requires
 order-requires c κs =
-    let b = c .before .before .before .before .before .before .before .before .before .before .before .before .before .before in
-    let a = b .args in
-    let t = b .pre .0 in
+    let a = c .before .before .before .before .before .before .before .before .before .before .before .before .before .before .args in
+    let t = c .before .before .before .before .before .before .before .before .before .before .before .before .before .before .pre .0 in
     let y = planes-are (a .f .now) (a .m) (a .comps .now) (a .count) (a .samples .now) (length (a .records .now)) (length (a .planes .now)) (sym (c .before .before .before .before .before .before .before .before .n .given .1) ∙ c .before .before .before .before .before .before .before .before .before .before .room .ensures) .1 in (
       omega (arith, y .all, channels-most (a .f .now) (a .m) (a .comps .now) (a .count) (a .samples .now) t),
       long-enough (a .f .now) (a .m) (image (a .comps .now) (a .count) (a .samples .now)) (a .records .now) (y .all) (c .before .before .before .before .opj-jp2-apply-pclr .ensures .0),
-      definitions-few (a .f .now) (a .m) (t .file),
-      λ some. t .file .1 .1 (λ z. omega arith) .1,
+      t .file .1 .1,
     )
 
 returns : tie.Need-returns

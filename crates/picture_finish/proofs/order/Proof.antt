@@ -22,7 +22,7 @@ returns-2 : tie.Need-returns-2
 unfolding afterwards
 returns-2 c =
     let b = c .before .before .before .before .before .before .before .before in
-    c .before .before .opj-jp2-apply-cdef .ensures .1 ∙ sym (row 1 _ ((b .pre .0, (b .pre .1, λ _. (b .pre .2, b .pre .3 (omega arith)))), tt) refl)
+    c .before .before .opj-jp2-apply-cdef .ensures .1 ∙ sym (row 1 _ ((b .pre .0, (b .pre .1, b .pre .2)), tt) refl)
 
 pub order-spec : {M : Type 1} → statement M
 order-spec = tie.close (tie.spec returns opj-jp2-apply-cdef-requires same-length returns-2)

@@ -1,9 +1,7 @@
 -- `picture_finish::read_picture` meets its contract.
 -- Assumes nothing.
 use borrow.Author.Needs.{needs}
-use Rattle.picture_rules.specs.Image.{image}
 use Rattle.picture_rules.specs.Finish.{finish}
-use lib.ListN.{length}
 use Rattle.picture_finish.specs.Whole.{handed}
 use Rattle.picture_finish.proofs.Wholes.{reading-refused, reading-on, shows, shows-refused}
 use Rattle.picture_finish.proofs.read_picture.Statement.{statement}
@@ -22,7 +20,10 @@ opj-jp2-apply-color-postprocessing-requires : tie.Need-opj-jp2-apply-color-postp
 opj-jp2-apply-color-postprocessing-requires c κs = tt
 
 returns : tie.Need-returns
-returns c = let a = c .before .before .before .before .before .before .before .before .args in shows-refused (handed (a .file .now) (a .ignore) (a .comps .now) (a .count) (a .samples .now) (a .records .now) (a .planes .now)) (a .records .now) (a .planes .now) (reading-refused (handed (a .file .now) (a .ignore) (a .comps .now) (a .count) (a .samples .now) (a .records .now) (a .planes .now)) (c .before .before .before .before .read-file .ensures) (c .before .answer .given .1))
+returns c =
+    let a = c .before .before .before .before .before .before .before .before .args in
+    let h = handed (a .file .now) (a .ignore) (a .comps .now) (a .count) (a .samples .now) (a .records .now) (a .planes .now) in
+    shows-refused h (a .records .now) (a .planes .now) (reading-refused h (c .before .before .before .before .read-file .ensures) (c .before .answer .given .1))
 
 same-length : tie.Need-same-length
 same-length c = search needs
@@ -33,10 +34,8 @@ same-length-2 c = search needs
 returns-2 : tie.Need-returns-2
 returns-2 c =
     let a = c .before .before .before .before .before .before .before .before .before .before .before .before .args in
-    let r = c .before .before .before .before .before .before .before .before .read-file in
-    let e = c .before .before .before .opj-jp2-apply-color-postprocessing .ensures in
-    shows (handed (a .file .now) (a .ignore) (a .comps .now) (a .count) (a .samples .now) (a .records .now) (a .planes .now)) (finish (a .file .now) (r .result .jp2) (a .ignore) (image (a .comps .now) (a .count) (a .samples .now)) (length (a .records .now)) (length (a .planes .now))) (a .records .now) (a .planes .now)
-    (reading-on (handed (a .file .now) (a .ignore) (a .comps .now) (a .count) (a .samples .now) (a .records .now) (a .planes .now)) (r .ensures) (c .before .before .before .before .before .before .match .keys2)) (e .0) (e .1 .0) (e .1 .1)
+    let h = handed (a .file .now) (a .ignore) (a .comps .now) (a .count) (a .samples .now) (a .records .now) (a .planes .now) in
+    shows h (finish h (c .before .before .before .before .before .before .before .before .read-file .result .jp2)) (a .records .now) (a .planes .now) (reading-on h (c .before .before .before .before .before .before .before .before .read-file .ensures) (c .before .before .before .before .before .before .match .keys2)) (c .before .before .before .opj-jp2-apply-color-postprocessing .ensures)
 
 pub read-picture-spec : {M : Type 1} → statement M
 read-picture-spec =

@@ -1,39 +1,49 @@
 -- `picture_planes::copy_plane` meets its contract.
 -- Assumes nothing.
 use native.Mathlib.Omega.{arith}
-use mathlib.Core.Path.{refl}
-use Rattle.box_number.proofs.Rows.{row}
-use Rattle.picture_planes.specs.Put.{done, put}
-use Rattle.picture_planes.proofs.Amiss.{done-true, done-false}
 use borrow.Author.Needs.{needs}
+use mathlib.Core.Path.{refl, sym, _∙_}
+use mathlib.Core.Bool.{true, false}
+use lib.ListN.{length}
+use Rattle.box_number.specs.Number.{liesOutside}
+use Rattle.box_number.proofs.Answers.{said}
+use Rattle.box_number.proofs.Rows.{row}
+use Rattle.picture_planes.specs.Written.{done, written}
 use Rattle.picture_planes.proofs.copy_plane.Statement.{statement}
 use Rattle.picture_planes.proofs.copy_plane.Tie as tie
 
-inside-requires : tie.Need-inside-requires
-inside-requires c κs = tt
+lies-outside-requires : tie.Need-lies-outside-requires
+lies-outside-requires c κs = tt
 
 returns : tie.Need-returns
-unfolding done put
-returns c = let h = done-false _ (c .before .inside .ensures) (c .if1 .taken) in (row 0 _ (omega arith) refl, row 0 _ (omega arith) refl)
+unfolding done written
+returns c =
+    let a = c .before .before .args in
+    let h = said true (liesOutside (length (a .src .now)) (a .from) (a .n)) (sym (c .if1 .taken) ∙ c .before .lies-outside .ensures) in
+    (row 0 _ (omega arith) refl, row 0 _ (omega arith) refl)
 
-inside-requires-2 : tie.Need-inside-requires-2
-inside-requires-2 c κs = tt
+lies-outside-requires-2 : tie.Need-lies-outside-requires-2
+lies-outside-requires-2 c κs = tt
 
 returns-2 : tie.Need-returns-2
-unfolding done put
-returns-2 c = let h = done-false _ (c .before .inside2 .ensures) (c .if2 .taken) in (row 0 _ (omega arith) refl, row 0 _ (omega arith) refl)
+unfolding done written
+returns-2 c =
+    let a = c .before .before .before .before .args in
+    let h = said true (liesOutside (length (a .dst .now)) (a .at) (a .n)) (sym (c .if2 .taken) ∙ c .before .lies-outside2 .ensures) in
+    (row 0 _ (λ _. h) refl, row 0 _ (λ _. h) refl)
 
 copy-inside-requires : tie.Need-copy-inside-requires
-copy-inside-requires c κs = (
-  done-true _ (c .before .before .before .before .inside .ensures) (c .before .before .before .if1 .left),
-  done-true _ (c .before .before .inside2 .ensures) (c .before .if2 .left),
-)
+copy-inside-requires c κs =
+    let a = c .before .before .before .before .before .args in (
+      said false (liesOutside (length (a .src .now)) (a .from) (a .n)) (sym (c .before .before .before .if1 .left) ∙ c .before .before .before .before .lies-outside .ensures),
+      said false (liesOutside (length (a .dst .now)) (a .at) (a .n)) (sym (c .before .if2 .left) ∙ c .before .before .lies-outside2 .ensures),
+    )
 
 same-length : tie.Need-same-length
 same-length c = search needs
 
 returns-3 : tie.Need-returns-3
-unfolding done put
+unfolding done written
 returns-3 c =
     let r = copy-inside-requires (c .before .before) (c .before .copy-inside .lifetimes) in
     (row 1 _ (r, tt) refl, row 1 _ (r, tt) (c .before .copy-inside .ensures))
@@ -42,9 +52,9 @@ pub copy-plane-spec : {M : Type 1} → statement M
 copy-plane-spec =
     tie.close
     (tie.spec
-    inside-requires
+    lies-outside-requires
     returns
-    inside-requires-2
+    lies-outside-requires-2
     returns-2
     copy-inside-requires
     same-length

@@ -5,7 +5,7 @@ use Prim.Native.Nat.{_+_, _-_, _≤_}
 use mathlib.Core.Path.{_≡_, refl}
 use mathlib.Core.List.{map}
 use lib.ListN.{drop}
-use Rattle.picture_planes.specs.Plane.{entryFor}
+use Rattle.picture_planes.specs.Private.Entry.{entryFor}
 use Rattle.box_number.proofs.Placing.{Placing, placing-none}
 use Rattle.picture_planes.proofs.Lookups.{look-four, look-all}
 use Rattle.picture_planes.proofs.lookup_fours.Statement.{statement}

@@ -6,7 +6,7 @@ use mathlib.Core.Path.{_≡_, refl}
 use mathlib.Core.List.{List, map}
 use lib.IntN.{ℤ}
 use lib.ListN.{length, drop}
-use Rattle.picture_planes.specs.Plane.{entryFor}
+use Rattle.picture_planes.specs.Private.Entry.{entryFor}
 use Rattle.box_number.proofs.Placing.{Placing}
 use Rattle.picture_planes.proofs.Lookups.{look-from, look-next, look-all}
 use Rattle.picture_planes.proofs.lookup_inside.Statement.{statement}

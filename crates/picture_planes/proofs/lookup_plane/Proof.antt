@@ -1,90 +1,99 @@
 -- `picture_planes::lookup_plane` meets its contract.
 -- Assumes nothing.
 use native.Mathlib.Omega.{arith}
-use mathlib.Core.Path.{refl}
-use mathlib.Core.Bool.{false}
+use borrow.Author.Needs.{needs}
+use mathlib.Core.Path.{refl, sym, _∙_}
+use mathlib.Core.Bool.{true, false}
 use lib.IntN.{pos}
 use lib.ListN.{length, replicate}
-use Rattle.box_number.specs.Table.{_<?_, _or_}
-use Rattle.box_number.proofs.Rows.{Says, row}
-use Rattle.picture_planes.specs.Put.{done, put}
-use Rattle.picture_planes.specs.Column.{noColumn, column}
-use Rattle.picture_planes.specs.Plane.{plane}
-use Rattle.picture_planes.proofs.Columns.{there}
-use Rattle.picture_planes.proofs.Amiss.{done-true, done-false, put-done}
-use Rattle.picture_planes.proofs.PlaneColumns.{placed-looked}
-use borrow.Author.Needs.{needs}
+use Rattle.box_number.specs.Number.{liesOutside}
+use Rattle.box_number.proofs.Answers.{said}
+use Rattle.box_number.proofs.Rows.{or-first, row}
+use Rattle.picture_planes.specs.Written.{done, written}
+use Rattle.picture_planes.specs.Column.{noColumn}
+use Rattle.picture_planes.specs.Plane.{plane, outside}
+use Rattle.picture_planes.proofs.Picks.{placed-looked}
 use Rattle.picture_planes.proofs.lookup_plane.Statement.{statement}
 use Rattle.picture_planes.proofs.lookup_plane.Tie as tie
 
-inside-requires : tie.Need-inside-requires
-inside-requires c κs = tt
+no-column-requires : tie.Need-no-column-requires
+no-column-requires c κs = tt
 
 returns : tie.Need-returns
-unfolding done put
-returns c = let h = done-false _ (c .before .inside .ensures) (c .if1 .taken) in (row 0 _ (λ _. omega arith) refl, row 0 _ (λ _. omega arith) refl)
+unfolding done written
+returns c =
+    let a = c .before .before .before .args in
+    let h = or-first (noColumn (a .k)) (outside (a .src .now) (a .from) (a .n) (a .dst .now) (a .at)) (said true (noColumn (a .k)) (sym (c .if1 .taken) ∙ c .before .no-column .ensures)) in
+    (row 0 _ h refl, row 0 _ h refl)
 
-inside-requires-2 : tie.Need-inside-requires-2
-inside-requires-2 c κs = tt
+lies-outside-requires : tie.Need-lies-outside-requires
+lies-outside-requires c κs = tt
 
 returns-2 : tie.Need-returns-2
-unfolding done put
-returns-2 c = let h = done-false _ (c .before .inside2 .ensures) (c .if2 .taken) in (row 0 _ (λ _. omega arith) refl, row 0 _ (λ _. omega arith) refl)
+unfolding done written
+returns-2 c =
+    let a = c .before .before .before .before .before .args in
+    let h = said true (liesOutside (length (a .src .now)) (a .from) (a .n)) (sym (c .if2 .taken) ∙ c .before .lies-outside .ensures) in
+    (row 0 _ (λ _ y. absurd (omega (arith, h, y))) refl, row 0 _ (λ _ y. absurd (omega (arith, h, y))) refl)
+
+lies-outside-requires-2 : tie.Need-lies-outside-requires-2
+lies-outside-requires-2 c κs = tt
+
+returns-3 : tie.Need-returns-3
+unfolding done written
+returns-3 c =
+    let a = c .before .before .before .before .before .before .before .args in
+    let h = said true (liesOutside (length (a .dst .now)) (a .at) (a .n)) (sym (c .if3 .taken) ∙ c .before .lies-outside2 .ensures) in
+    (row 0 _ (λ _ _. h) refl, row 0 _ (λ _ _. h) refl)
 
 slice-aggregate-read-column : tie.Need-slice-aggregate-read-column
 slice-aggregate-read-column c = search needs
 
 read-column-requires : tie.Need-read-column-requires
-read-column-requires c κs = tt
-
--- past the third test the column is there
-sound : (c : tie.Else3) → let a = c .before .before .before .before .before .before .before .before .before .args in Says false (noColumn (a .f .now) (a .p) (a .i))
-sound c = done-true _ (c .before .before .read-column .ensures .0) (c .if3 .left) .0
-
--- the array has room for any column, so that only a column which is not there is not read
-returns-3 : tie.Need-returns-3
-unfolding done put
-returns-3 c =
-    let w = done-false _ (c .before .before .read-column .ensures .0) (c .if3 .taken) in
-    let a = c .before .before .before .before .before .before .before .before .before .args in
-    (row 0 _ (λ h. absurd (omega (arith, w h, there (a .f .now) (a .p) (a .i) h .1))) refl, row 0 _ (λ h. absurd (omega (arith, w h, there (a .f .now) (a .p) (a .i) h .1))) refl)
+read-column-requires c κs =
+    let a = c .before .before .before .before .before .before .before .before .args in
+    let k = said false (noColumn (a .k)) (sym (c .before .before .before .before .before .if1 .left) ∙ c .before .before .before .before .before .before .no-column .ensures) in
+    (k .1 .0, k .1 .1, omega (arith, k .1 .0))
 
 sub-lookup-inside : tie.Need-sub-lookup-inside
-sub-lookup-inside c = let a = c .before .before .before .before .before .before .before .before .before .before .before .args in let t = there (a .f .now) (a .p) (a .i) (sound (c .before .before)) in omega (arith, t .0)
+sub-lookup-inside c =
+    let a = c .before .before .before .before .before .before .before .before .before .before .before .before .args in
+    let k = said false (noColumn (a .k)) (sym (c .before .before .before .before .before .before .before .before .before .if1 .left) ∙ c .before .before .before .before .before .before .before .before .before .before .no-column .ensures) in
+    omega (arith, k .0)
 
 lookup-inside-requires : tie.Need-lookup-inside-requires
-lookup-inside-requires c κs = let a = c .before .before .before .before .before .before .before .before .before .before .before .before .args in let t = there (a .f .now) (a .p) (a .i) (sound (c .before .before .before)) in (
-  omega (arith, t .0, t .1),
-  done-true _ (c .before .before .before .before .before .before .before .before .before .before .inside .ensures) (c .before .before .before .before .before .before .before .before .before .if1 .left),
-  done-true _ (c .before .before .before .before .before .before .before .before .inside2 .ensures) (c .before .before .before .before .before .before .before .if2 .left),
-)
+lookup-inside-requires c κs =
+    let a = c .before .before .before .before .before .before .before .before .before .before .before .before .before .args in
+    let k = said false (noColumn (a .k)) (sym (c .before .before .before .before .before .before .before .before .before .before .if1 .left) ∙ c .before .before .before .before .before .before .before .before .before .before .before .no-column .ensures) in (
+      omega (arith, k .0, k .1 .0),
+      said false (liesOutside (length (a .src .now)) (a .from) (a .n)) (sym (c .before .before .before .before .before .before .before .before .if2 .left) ∙ c .before .before .before .before .before .before .before .before .before .lies-outside .ensures),
+      said false (liesOutside (length (a .dst .now)) (a .at) (a .n)) (sym (c .before .before .before .before .before .before .if3 .left) ∙ c .before .before .before .before .before .before .before .lies-outside2 .ensures),
+    )
 
 same-length : tie.Need-same-length
 same-length c = search needs
 
 returns-4 : tie.Need-returns-4
-unfolding done put
+unfolding done written
 returns-4 c =
-    let k = sound (c .before .before .before .before .before) in
+    let a = c .before .before .before .before .before .before .before .before .before .before .before .before .before .before .before .args in
+    let k = said false (noColumn (a .k)) (sym (c .before .before .before .before .before .before .before .before .before .before .before .before .if1 .left) ∙ c .before .before .before .before .before .before .before .before .before .before .before .before .before .no-column .ensures) in
     let r = lookup-inside-requires (c .before .before) (c .before .lookup-inside .lifetimes) in
-    let a = c .before .before .before .before .before .before .before .before .before .before .before .before .before .before .args in
-    let t = there (a .f .now) (a .p) (a .i) k in
-    let z = replicate 1024 (pos 0) in
-    let e = put-done (noColumn (a .f .now) (a .p) (a .i) or length z <? a .p .entries) z 0 (column (a .f .now) (a .p) (a .i) (a .p .entries)) (k, omega (arith, t .1)) (c .before .before .before .before .before .before .before .read-column .ensures .1) in
-    let q = placed-looked (a .f .now) (a .p) (a .i) (a .dst .now) (a .at) z (plane (a .src .now) (a .from) (a .n)) (omega (arith, t .0)) e (c .before .lookup-inside .ensures) in
+    let q = placed-looked (a .s .now) (a .k) (a .dst .now) (a .at) (replicate 1024 (pos 0)) (plane (a .src .now) (a .from) (a .n)) (omega (arith, k .0)) (c .before .before .before .before .before .before .read-column .ensures) (c .before .lookup-inside .ensures) in
     (row 1 _ ((k, (r .1, r .2)), tt) refl, row 1 _ ((k, (r .1, r .2)), tt) q)
 
 pub lookup-plane-spec : {M : Type 1} → statement M
 lookup-plane-spec =
     tie.close
     (tie.spec
-    inside-requires
+    no-column-requires
     returns
-    inside-requires-2
+    lies-outside-requires
     returns-2
+    lies-outside-requires-2
+    returns-3
     slice-aggregate-read-column
     read-column-requires
-    returns-3
     sub-lookup-inside
     lookup-inside-requires
     same-length

@@ -1,63 +1,113 @@
--- `picture_planes::read_column` meets its contract.
+-- `picture_planes::read_column` meets its contract. Before turn j the first j entries are in the list.
 -- Assumes nothing.
+use Prim.Native.Nat.{_+_, _*_, _≤_, _-_}
+use native.Mathlib.Nat.{zero-add, zero-mul}
 use native.Mathlib.Omega.{arith}
-use mathlib.Core.Path.{refl}
-use mathlib.Core.Bool.{false}
-use lib.ListN.{length}
-use Rattle.box_number.specs.Table.{_<?_}
-use Rattle.box_number.proofs.Rows.{or-first, Says, row}
-use Rattle.picture_planes.specs.Put.{done, put}
-use Rattle.picture_planes.specs.Column.{noColumn}
-use Rattle.picture_planes.proofs.Amiss.{done-true, done-false}
-use Rattle.picture_planes.proofs.Columns.{there}
-use borrow.Author.Needs.{needs}
+use mathlib.Core.Path.{_≡_, sym, ap, _∙_}
+use lib.IntN.{pos}
+use lib.Seq.{take-all}
+use mir.Syntax.{w32}
+use mir.Val.{toZ, ofZ}
+use mir.Facts.{toZ-ofZ}
+use borrow.Author.Needs.{sfits-of}
+use Rattle.box_number.specs.Number.{placed}
+use Rattle.box_number.proofs.Placing.{Placing, placing-none, placing-more, placing-all}
+use Rattle.picture_rules.specs.Samples.{displayed}
+use Rattle.picture_planes.specs.Column.{column}
+use Rattle.picture_planes.proofs.Columns.{columnOf, steps-more, steps-most, entry-read, length-column, column-at}
 use Rattle.picture_planes.proofs.read_column.Statement.{statement}
 use Rattle.picture_planes.proofs.read_column.Tie as tie
 
-has-column-requires : tie.Need-has-column-requires
-has-column-requires c κs = tt
+abbrev Inv-loop : tie.InvT-loop
+Inv-loop s out₀ step wide entries at₀ j₀ out at j = (j ≤ entries) × (at ≡ at₀ + j * step) × Placing out₀ 0 (column s (columnOf at₀ step wide entries) entries) out j
 
--- past the first test the column is there
-sound : (c : tie.Else1) → let a = c .before .before .before .args in Says false (noColumn (a .f .now) (a .p) (a .i))
-sound c = done-true _ (c .before .has-column .ensures) (c .if1 .left)
+abbrev μ-loop : tie.MeasureT-loop
+μ-loop s out₀ step wide entries at₀ j₀ out at j = entries - j
 
-returns : tie.Need-returns
-unfolding done put
+cast-step : tie.Need-cast-step Inv-loop μ-loop
+cast-step c = omega arith
+
+cast-wide : tie.Need-cast-wide Inv-loop μ-loop
+cast-wide c = omega arith
+
+cast-entries : tie.Need-cast-entries Inv-loop μ-loop
+cast-entries c = omega arith
+
+cast-at : tie.Need-cast-at Inv-loop μ-loop
+cast-at c = omega arith
+
+loop-holds : tie.Need-loop-holds Inv-loop μ-loop
+loop-holds c =
+    let a = c .before .before .before .before .before .args in
+    (omega arith, omega (arith, zero-mul (a .k .step)), placing-none (a .out .now) 0 (column (a .s .now) (a .k) (a .k .entries)))
+
+opj-read-bytes-requires : tie.Need-opj-read-bytes-requires Inv-loop μ-loop
+opj-read-bytes-requires c κs = tt
+
+displayed-requires : tie.Need-displayed-requires Inv-loop μ-loop
+displayed-requires c κs = tt
+
+mul-t12 : tie.Need-mul-t12 Inv-loop μ-loop
+mul-t12 c = omega arith
+
+slice-set-from-out : tie.Need-slice-set-from-out Inv-loop μ-loop
+slice-set-from-out c = omega arith
+
+add-at : tie.Need-add-at Inv-loop μ-loop
+add-at c = let a = c .before .before .before .before .before .before .before .before .before .args in let q = c .before .before .before .before .before .before .before .before .before .pre in omega (arith, q .0, steps-most (c .before .before .before .loop .j) (a .k .step) (omega (arith, q .0)) (omega arith))
+
+add-j : tie.Need-add-j Inv-loop μ-loop
+add-j c = omega arith
+
+loop-less : tie.Need-loop-less Inv-loop μ-loop
+loop-less c = omega arith
+
+loop-again : tie.Need-loop-again Inv-loop μ-loop
+loop-again c =
+    let a = c .before .before .before .before .before .before .before .before .before .args in
+    let q = c .before .before .before .before .before .before .before .before .before .pre in
+    let l = c .before .before .before .loop in
+    let s = column (a .s .now) (a .k) (a .k .entries) in (
+      omega arith,
+      omega (arith, steps-more (l .j) (a .k .step)),
+      rw (zero-add (l .j)) at
+          (placing-more (a .out .now) 0 s (l .out) (l .j) (pos 0) (toZ w32 (ofZ w32 (c .displayed .result))) (l .inv .2) (omega (arith, q .2))
+          (rw (length-column (a .s .now) (a .k) (a .k .entries)) (omega arith))
+          (toZ-ofZ (sfits-of (c .displayed .ok)) ∙ c .displayed .ensures
+          ∙ ap displayed (entry-read (a .s .now) (a .k .wide) (q .1) (l .inv .1) (c .before .opj-read-bytes .ensures))
+          ∙ sym (column-at (a .s .now) (a .k) (a .k .entries) (l .j) (pos 0) (omega arith)))),
+    )
+
+same-length : tie.Need-same-length Inv-loop μ-loop
+same-length c = omega arith
+
+returns : tie.Need-returns Inv-loop μ-loop
 returns c =
-    let a = c .before .before .before .args in
-    let w = or-first (noColumn (a .f .now) (a .p) (a .i)) (length (a .out .now) <? a .p .entries) (done-false _ (c .before .has-column .ensures) (c .if1 .taken)) in
-    (row 0 _ w refl, row 0 _ w refl)
-
-cast-if2 : tie.Need-cast-if2
-cast-if2 c = search needs
-
-returns-2 : tie.Need-returns-2
-unfolding done put
-returns-2 c = (row 0 _ (λ _. omega arith) refl, row 0 _ (λ _. omega arith) refl)
-
-decode-column-requires : tie.Need-decode-column-requires
-decode-column-requires c κs =
-    let a = c .before .before .before .before .before .before .args in
-    let t = there (a .f .now) (a .p) (a .i) (sound (c .before .before .before)) in
-    (omega (arith, t .4), t .1, t .2, t .3, omega arith)
-
-same-length : tie.Need-same-length
-same-length c = search needs
-
-returns-3 : tie.Need-returns-3
-unfolding done put
-returns-3 c =
-    let k = sound (c .before .before .before .before .before) in
-    (row 1 _ ((k, omega arith), tt) refl, row 1 _ ((k, omega arith), tt) (c .before .decode-column .ensures))
+    let l = c .before .loop in
+    let a = c .before .before .before .before .before .before .before .args in
+    let s = column (a .s .now) (a .k) (a .k .entries) in
+    let e = length-column (a .s .now) (a .k) (a .k .entries) in
+    placing-all (a .out .now) 0 s (l .out) (l .j) (a .k .entries) (l .inv .2) (omega arith) (omega arith)
+    ∙ ap (placed (a .out .now) 0) (take-all (a .k .entries) s (omega arith))
 
 pub read-column-spec : {M : Type 1} → statement M
 read-column-spec =
     tie.close
     (tie.spec
-    has-column-requires
-    returns
-    cast-if2
-    returns-2
-    decode-column-requires
+    Inv-loop
+    μ-loop
+    cast-step
+    cast-wide
+    cast-entries
+    cast-at
+    loop-holds
+    opj-read-bytes-requires
+    displayed-requires
+    mul-t12
+    slice-set-from-out
+    add-at
+    add-j
+    loop-less
+    loop-again
     same-length
-    returns-3)
+    returns)
