@@ -23,7 +23,7 @@ module _ (h : Handed) (xs : List ℕ) where
   unfolding finishReading
   refused f e = sym (row 1 _ (f, e) refl)
 
-  pub on : Says false (noReading xs) → (getD xs at.kind 0 ≡ at.readingRefused → ⊥) → finishReading h xs ≡ finish (h .file) (recordOf xs) (h .ignore) (h .image) (h .records) (h .samples)
+  pub on : Says false (noReading xs) → (getD xs at.kind 0 ≡ at.readingRefused → ⊥) → finishReading h xs ≡ finish h (recordOf xs)
   unfolding finishReading
   on f n = sym (row 2 _ (f, (n, tt)) refl)
 

@@ -12,7 +12,8 @@ use Rattle.read_channels.specs.Definitions.{definitions}
 use Rattle.picture_rules.specs.Image.{Image, size}
 use Rattle.picture_rules.specs.Channels.{channels, componentOf, typeOf}
 use Rattle.picture_rules.specs.Samples.{valueOf, channelSamples, packed, startOf}
-use Rattle.picture_rules.specs.Finish.{Finishing, counted, expanded, picture, fitted, coloured, finish}
+use Rattle.picture_rules.specs.Finish.{Finishing, declined, counted, expanded, picture, fitted, colourChecks, checks, finish}
+use Rattle.picture_rules.specs.Handed.{Handed}
 
 -- the three lists of a record, and nothing else of it
 abbrev pub kept : Jp2 → Jp2
@@ -37,30 +38,37 @@ module _ (f : List ℕ) (m : Jp2) (i : Image) where
   unfolding picture channels
   picture-same = rw (expanded-same, packed-same (channels m (i .count))) refl
 
-  coloured-same : (records samples : ℕ) → coloured f (kept m) i records samples ≡ coloured f m i records samples
-  unfolding fitted coloured channels
-  coloured-same records samples = rw (picture-same, start-same (channels m (i .count))) refl
+  checks-same : (records samples : ℕ) → colourChecks declined f (kept m) i (fitted f (kept m) i records samples) ≡ colourChecks declined f m i (fitted f m i records samples)
+  unfolding fitted colourChecks channels
+  checks-same records samples = rw (picture-same, start-same (channels m (i .count))) refl
 
 -- what is left of a record with the ignore flag
 abbrev bare : Jp2 → Jp2
 bare m = withPclr (palette 0 0 0) (withCmap (span 0 0) (withCdef (span 0 0) m))
 
-module _ (f : List ℕ) (m : Jp2) (ignore : ℕ) (i : Image) (records samples : ℕ) where
-  applied : (k : Jp2) → ignore ≡ 0 → counted ignore k ≡ k
+module _ (h : Handed) (m : Jp2) where
+  applied : (k : Jp2) → h .settings .ignore ≡ 0 → counted (h .settings) k ≡ k
   unfolding counted
   applied k z = sym (row 0 _ z refl)
 
-  ignored : (k : Jp2) → (ignore ≡ 0 → ⊥) → counted ignore k ≡ bare k
+  ignored : (k : Jp2) → (h .settings .ignore ≡ 0 → ⊥) → counted (h .settings) k ≡ bare k
   unfolding counted
   ignored k n = sym (row 1 _ (n, tt) refl)
 
-  colours-same : coloured f (counted ignore (kept m)) i records samples ≡ coloured f (counted ignore m) i records samples
-  colours-same =
-      each (λ (_ : ℕ). coloured f (counted ignore (kept m)) i records samples ≡ coloured f (counted ignore m) i records samples) (ignore =? 0 ⇒ 0 ∣ otherwise 0) (
-        (λ z. rw (applied (kept m) z, applied m z) (coloured-same f m i records samples)),
-        λ n. rw (ignored (kept m) n, ignored m n) (sym (coloured-same f (bare (kept m)) i records samples) ∙ coloured-same f (bare m) i records samples),
+  -- 25 to 28 and 30 with a record
+  abbrev later : Jp2 → Finishing
+  later k = colourChecks declined (h .file) k (h .image) (fitted (h .file) k (h .image) (h .records) (h .samples))
+
+  later-same : (k : Jp2) → later (kept k) ≡ later k
+  later-same k = checks-same (h .file) k (h .image) (h .records) (h .samples)
+
+  counted-same : later (counted (h .settings) (kept m)) ≡ later (counted (h .settings) m)
+  counted-same =
+      each (λ (_ : ℕ). later (counted (h .settings) (kept m)) ≡ later (counted (h .settings) m)) (h .settings .ignore =? 0 ⇒ 0 ∣ otherwise 0) (
+        (λ z. rw (applied (kept m) z, applied m z) (later-same m)),
+        λ n. rw (ignored (kept m) n, ignored m n) (sym (later-same (bare (kept m))) ∙ later-same (bare m)),
       )
 
-  pub finish-same : finish f (kept m) ignore i records samples ≡ finish f m ignore i records samples
-  unfolding finish
-  finish-same = rw colours-same refl
+  pub finish-same : finish h (kept m) ≡ finish h m
+  unfolding finish checks
+  finish-same = rw counted-same refl

@@ -19,9 +19,9 @@ two-steps h = go (read (h .file)) refl
   where
     go : (w : Walked) → read (h .file) ≡ w → Fits ((reading blank w) .jp2) → finishReading h (numbers (reading blank w)) ≡ pictured h
     go (codestream offset m) e fits =
-        rw e (on h _ (omega arith, (omega arith, ((λ two. absurd (omega arith)), (omega arith, omega arith)))) (λ two. omega arith) ∙ finish-same (h .file) m (h .ignore) (h .image) (h .records) (h .samples))
+        rw e (on h _ (omega arith, (omega arith, ((λ two. absurd (omega arith)), (omega arith, omega arith)))) (λ two. omega arith) ∙ finish-same h m)
     go (ended m) e fits =
-        rw e (on h _ (omega arith, (omega arith, ((λ two. absurd (omega arith)), (omega arith, omega arith)))) (λ two. omega arith) ∙ finish-same (h .file) m (h .ignore) (h .image) (h .records) (h .samples))
+        rw e (on h _ (omega arith, (omega arith, ((λ two. absurd (omega arith)), (omega arith, omega arith)))) (λ two. omega arith) ∙ finish-same h m)
     go (turnedDown number place) e fits =
         let w = numbers-within (h .file) blank number place e in
         rw e (refused h _ (omega arith, (omega arith, ((λ two. ((λ z. omega (arith, w .0)), w .1)), (omega arith, omega arith)))) refl)

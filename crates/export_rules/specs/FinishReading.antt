@@ -42,4 +42,4 @@ finishReading h xs =
     table
     (noReading xs ⇒ declined 29 0
     ∣ getD xs at.kind 0 =? at.readingRefused ⇒ declined (getD xs at.value 0) (getD xs at.place 0)
-    ∣ otherwise (finish (h .file) (recordOf xs) (h .ignore) (h .image) (h .records) (h .samples)))
+    ∣ otherwise (finish h (recordOf xs)))

@@ -35,8 +35,8 @@ returns-2 c =
     let h = c .before .before .before .before .before .before .before .before .before .before .if1 .left in
     let e = c .before .before .before .before .before .before .before .read-picture .ensures in
     let g = c .before .before .give-finished .ensures in
-    let a = answer-given ofFinished d h (e .0) g in
-    (a .0, (a .1, (long answerLength d _ _ h (e .1 .0), (long answerLength d _ _ h (e .1 .1 .0), told-right _ d _ (g .1) (e .1 .1 .1 .0) (e .1 .1 .1 .1)))))
+    let a = answer-given ofFinished d h (e .done .answer) g in
+    (a .0, (a .1, (long answerLength d _ _ h (e .done .numbers), (long answerLength d _ _ h (e .done .samples), told-right _ d _ (g .1) (e .right) (e .filled)))))
 
 pub cuzhantir-picture-spec : {M : Type 1} → statement M
 cuzhantir-picture-spec =

@@ -4,7 +4,6 @@ use native.Mathlib.Omega.{arith}
 use mathlib.Core.Path.{sym, ap, _∙_}
 use mathlib.Core.Bool.{true, false}
 use Rattle.box_number.proofs.Rows.{said}
-use Rattle.read_record.specs.declared.Jp2.{Jp2}
 use Rattle.picture_rules.specs.Finish.{Finishing, finish}
 use Rattle.picture_finish.specs.Answers.{answered, recordsAfter, samplesAfter}
 use Rattle.picture_finish.specs.Whole.{handed}
@@ -54,8 +53,8 @@ returns-3 c =
     let h = handed (a .file .now) (a .ignore) (a .comps .now) (a .count) (a .samples .now) (a .records .now) (a .planes .now) in
     let f = said false (noReading (a .reading .now)) (sym (c .before .before .before .before .before .before .before .before .before .before .no-reading .ensures) ∙ c .before .before .before .before .before .before .before .before .before .if1 .left) in
     let e = c .before .before .before .opj-jp2-apply-color-postprocessing .ensures in
-    let is = on h (a .reading .now) f (c .before .before .before .before .before .before .before .if2 .left) ∙ ap (λ (m : Jp2). finish (h .file) m (h .ignore) (h .image) (h .records) (h .samples)) (sym (c .before .before .before .before .before .before .record-of .ensures)) in
-    (e .0 ∙ ap answered (sym is), (e .1 .0 ∙ ap (λ (x : Finishing). recordsAfter x (a .records .now)) (sym is), e .1 .1 ∙ ap (λ (x : Finishing). samplesAfter x (a .planes .now)) (sym is)))
+    let is = on h (a .reading .now) f (c .before .before .before .before .before .before .before .if2 .left) ∙ ap (finish h) (sym (c .before .before .before .before .before .before .record-of .ensures)) in
+    (e .answer ∙ ap answered (sym is), (e .numbers ∙ ap (λ (x : Finishing). recordsAfter x (a .records .now)) (sym is), e .samples ∙ ap (λ (x : Finishing). samplesAfter x (a .planes .now)) (sym is)))
 
 pub finish-reading-spec : {M : Type 1} → statement M
 finish-reading-spec =
