@@ -15,7 +15,7 @@ use Rattle.read_file.specs.File.{Walked, codestream, read, reading}
 use Rattle.write_rules.specs.Request.{Request}
 use Rattle.write_rules.specs.Writing.{Writing, written, declined, write, destination}
 use Rattle.write_rules.specs.RoundTrip.{ReadBack}
-use Rattle.write_rules.proofs.Back.{round-trip}
+use Rattle.write_rules.proofs.RoundTrip.{round-trip}
 use Rattle.write_boxes.specs.declared.Written.{Written}
 use Rattle.write_boxes.specs.declared.Written.the-variants.{Bytes}
 use Rattle.write_boxes.specs.Answers.{answered}

@@ -7,6 +7,6 @@ pub mod Children
 pub mod Header
 pub mod Places
 pub mod Whole
-pub mod Back
+pub mod RoundTrip
 pub mod Refusals
 pub mod Telling
