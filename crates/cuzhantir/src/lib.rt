@@ -6,10 +6,10 @@ ghost use Rattle.read_record.specs.Record.{blank};
 ghost use Rattle.picture_finish.specs.Answers.{answered, recordsAfter, samplesAfter};
 ghost use Rattle.picture_finish.specs.Whole.{handed, pictured};
 ghost use Rattle.write_rules.specs.Writing.{write, destination};
-ghost use Rattle.write_rules.specs.Request.{asked};
+ghost use Rattle.write_rules.specs.Request.{request};
 ghost use Rattle.export_rules.specs.Places.{readingLength, answerLength};
 ghost use Rattle.export_rules.specs.Room.{room};
-ghost use Rattle.export_rules.specs.Numbers.{numbers, number};
+ghost use Rattle.export_rules.specs.Numbers.{numbers, refusalNumber};
 ghost use Rattle.export_rules.specs.Answers.{ofFinished, ofWritten, returned};
 ghost use Rattle.export_rules.specs.FinishReading.{finishReading};
 ghost use Rattle.export_rules.specs.Rule.{ToldRight};
@@ -30,7 +30,7 @@ const TOO_SHORT: u32 = 30;
 // Reads a file and gives the 44 numbers of its reading. Where reading has no room for them nothing is done.
 #[no_mangle]
 pub extern "C" fn cuzhantir_read(file: &[u8], reading: &mut [u64]) -> u32
-    ensures { λ r. ⌜ r ≡ room readingLength (now (reading .entry)) 30 (number ((jp2.reading blank (jp2.read (now (file .entry)))) .answer)) ⌝ }
+    ensures { λ r. ⌜ r ≡ room readingLength (now (reading .entry)) 30 (refusalNumber ((jp2.reading blank (jp2.read (now (file .entry)))) .answer)) ⌝ }
     ensures { λ _. ⌜ now (reading .exit) ≡ room readingLength (now (reading .entry)) (now (reading .entry)) (placed (now (reading .entry)) 0 (numbers (jp2.reading blank (jp2.read (now (file .entry)))))) ⌝ }
 {
     if reading.len() < READING_LENGTH {
@@ -138,9 +138,9 @@ pub extern "C" fn cuzhantir_write(
     d: &mut [u8],
     answer: &mut [u64],
 ) -> u32
-    ensures { λ r. ⌜ r ≡ room answerLength (now (answer .entry)) 30 (returned (ofWritten (written.answered (write (asked (now (comps .entry)) count x0 y0 x1 y1 space (now (profile .entry)) codestream (length (now (d .entry)))))))) ⌝ }
-    ensures { λ _. ⌜ now (answer .exit) ≡ room answerLength (now (answer .entry)) (now (answer .entry)) (placed (now (answer .entry)) 0 (ofWritten (written.answered (write (asked (now (comps .entry)) count x0 y0 x1 y1 space (now (profile .entry)) codestream (length (now (d .entry)))))))) ⌝ }
-    ensures { λ _. ⌜ now (d .exit) ≡ room answerLength (now (answer .entry)) (now (d .entry)) (destination (now (d .entry)) (write (asked (now (comps .entry)) count x0 y0 x1 y1 space (now (profile .entry)) codestream (length (now (d .entry)))))) ⌝ }
+    ensures { λ r. ⌜ r ≡ room answerLength (now (answer .entry)) 30 (returned (ofWritten (written.answered (write (request (now (comps .entry)) count x0 y0 x1 y1 space (now (profile .entry)) codestream (length (now (d .entry)))))))) ⌝ }
+    ensures { λ _. ⌜ now (answer .exit) ≡ room answerLength (now (answer .entry)) (now (answer .entry)) (placed (now (answer .entry)) 0 (ofWritten (written.answered (write (request (now (comps .entry)) count x0 y0 x1 y1 space (now (profile .entry)) codestream (length (now (d .entry)))))))) ⌝ }
+    ensures { λ _. ⌜ now (d .exit) ≡ room answerLength (now (answer .entry)) (now (d .entry)) (destination (now (d .entry)) (write (request (now (comps .entry)) count x0 y0 x1 y1 space (now (profile .entry)) codestream (length (now (d .entry)))))) ⌝ }
 {
     if answer.len() < ANSWER_LENGTH {
         return TOO_SHORT;

@@ -4,7 +4,7 @@ ghost use Prim.Native.Nat.{_+_, _≤_};
 ghost use mathlib.Core.List.{_++_};
 ghost use lib.ListN.{length};
 ghost use Rattle.box_number.specs.Number.{placed};
-ghost use Rattle.export_rules.specs.Numbers.{ofAnswer, ofImage, ofColour, ofFileType, ofLists, ofStatus, number};
+ghost use Rattle.export_rules.specs.Numbers.{ofAnswer, ofImage, ofColour, ofFileType, ofLists, ofStatus, refusalNumber};
 use read_file::FileAnswer;
 use read_record::Colour;
 use read_record::FileType;
@@ -143,7 +143,7 @@ pub fn status_numbers(s: Status) -> [u64; 4]
 
 // The number of a refusal, 0 for any other answer.
 pub fn answer_number(a: FileAnswer) -> u32
-    ensures { λ r. ⌜ r ≡ number a ⌝ }
+    ensures { λ r. ⌜ r ≡ refusalNumber a ⌝ }
 {
     match a {
         FileAnswer::Codestream(_) => 0,

@@ -15,7 +15,7 @@ use Rattle.picture_finish.specs.declared.Finished.{Finished}
 use Rattle.picture_finish.specs.declared.Finished.the-variants.{Planes, Refused}
 use Rattle.picture_finish.specs.Whole.{PictureRight, PictureFilled, Speaks}
 use Rattle.export_rules.specs.Places.{answerKind, answerCount, answerRefused}
-use Rattle.export_rules.specs.Answers.{done, ofFinished}
+use Rattle.export_rules.specs.Answers.{doneNumbers, ofFinished}
 use Rattle.export_rules.specs.Rule.{ToldRight}
 
 pub told-right :
@@ -32,5 +32,5 @@ told-right h d (Refused number place) {e} p right filled l z =
 -- the clause is not empty: where the rules of picture_finish say something about planes, it does too
 pub told-speaks :
     (h : Handed) (planes : Image) → Speaks h planes →
-    ToldRight h (0 ∷ 0 ∷ 0 ∷ 0 ∷ []) (done (planes .count)) (planes .components) (planes .samples) → (m : Jp2) × RightPlanes h m planes
+    ToldRight h (0 ∷ 0 ∷ 0 ∷ 0 ∷ []) (doneNumbers (planes .count)) (planes .components) (planes .samples) → (m : Jp2) × RightPlanes h m planes
 told-speaks h planes speaks rule = speaks .right (rule (omega arith) refl .0)

@@ -9,19 +9,19 @@ use Rattle.write_boxes.specs.declared.Written.the-variants as written
 use Rattle.export_rules.specs.Places.{answerNumber, answerDone, answerRefused}
 
 -- 0, and the number of planes or bytes
-abbrev pub done : ℕ → List ℕ
-done count = answerDone ∷ 0 ∷ 0 ∷ count ∷ []
+abbrev pub doneNumbers : ℕ → List ℕ
+doneNumbers count = answerDone ∷ 0 ∷ 0 ∷ count ∷ []
 
 -- 1, document 01's number, and its index or needed length
 abbrev pub refused : ℕ → ℕ → List ℕ
 refused number place = answerRefused ∷ number ∷ place ∷ 0 ∷ []
 
 abbrev pub ofFinished : Finished → List ℕ
-ofFinished (finished.Planes n) = done n
+ofFinished (finished.Planes n) = doneNumbers n
 ofFinished (finished.Refused number place) = refused number place
 
 abbrev pub ofWritten : Written → List ℕ
-ofWritten (written.Bytes n) = done n
+ofWritten (written.Bytes n) = doneNumbers n
 ofWritten (written.Refused number place) = refused number place
 
 -- what an entry returns for an answer: document 01's number, 0 for what is done

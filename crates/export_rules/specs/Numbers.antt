@@ -18,13 +18,13 @@ use Rattle.export_rules.specs.Places.{kind, value, place, pclrPlace, pcl
 abbrev pub ofAnswer : FileAnswer → List ℕ
 ofAnswer (Codestream offset) = readingCodestream ∷ offset ∷ 0 ∷ []
 ofAnswer Ended = readingEnded ∷ 0 ∷ 0 ∷ []
-ofAnswer (Refused number at) = readingRefused ∷ number ∷ at ∷ []
+ofAnswer (Refused refusalNumber at) = readingRefused ∷ refusalNumber ∷ at ∷ []
 
 -- the number of a refusal, 0 for any other answer
-abbrev pub number : FileAnswer → ℕ
-number (Codestream offset) = 0
-number Ended = 0
-number (Refused n at) = n
+abbrev pub refusalNumber : FileAnswer → ℕ
+refusalNumber (Codestream offset) = 0
+refusalNumber Ended = 0
+refusalNumber (Refused n at) = n
 
 -- 3 to 9
 abbrev pub ofImage : Image → List ℕ

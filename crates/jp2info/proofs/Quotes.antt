@@ -8,7 +8,7 @@ use mathlib.Core.List.{List, [], _++_}
 use lib.ListN.{length, take, drop, length-drop}
 use Rattle.box_number.proofs.Rows.{row, each}
 use Rattle.box_number.proofs.Numbers.{rest-is}
-use Rattle.jp2info.specs.Quote.{together, front, quotes, quoted}
+use Rattle.jp2info.specs.Quote.{together, firstCharacter, quotes, quoted}
 use Rattle.text.proofs.Puts.{Puts, Left, start, turn, done}
 use Rattle.jp2info.proofs.Utf8s.{character-fits}
 
@@ -23,7 +23,7 @@ together-fits s h = each (λ (n : ℕ). n ≤ length s) _ ((λ t. character-fits
 pub rest-less : (s : List ℕ) (n : ℕ) → n ≡ together s → 0 < length s → length (take (length s - n) (drop n s)) < length s
 rest-less s n t h = let some = together-some s in rw (rest-is s n, length-drop) (omega arith)
 
-quotes-turn : (fuel : ℕ) (json : Bool) (s : List ℕ) → 0 < length s → quotes (suc fuel) json s ≡ front json (together s) s ++ quotes fuel json (drop (together s) s)
+quotes-turn : (fuel : ℕ) (json : Bool) (s : List ℕ) → 0 < length s → quotes (suc fuel) json s ≡ firstCharacter json (together s) s ++ quotes fuel json (drop (together s) s)
 unfolding quotes
 quotes-turn fuel json s h = sym (row 1 _ (omega arith) refl)
 
@@ -43,7 +43,7 @@ unfolding quoted
 going-start d at json s = record { fuel = length s; enough = omega arith; left = start d at _ }
 
 module _ {d₀ : List ℕ} {at : ℕ} {whole : List ℕ} {json : Bool} {d : List ℕ} {k : ℕ} {rest : List ℕ} (g : Going d₀ at whole json d k rest) where
-  pub going-turn : (n : ℕ) {e : List ℕ} {m : ℕ} → n ≡ together rest → 0 < length rest → Puts d k (front json n rest) e m
+  pub going-turn : (n : ℕ) {e : List ℕ} {m : ℕ} → n ≡ together rest → 0 < length rest → Puts d k (firstCharacter json n rest) e m
       → Going d₀ at whole json e m (take (length rest - n) (drop n rest))
   going-turn n {e} {m} t h p = rw (rest-is rest n, t) (go (g .fuel) (g .enough) (g .left))
     where

@@ -3,7 +3,7 @@ ghost use Prim.Native.Nat.{_/_, _%_, _<_};
 ghost use mathlib.Core.Path.{_≡_};
 ghost use mathlib.Core.List.{[], _∷_, _++_};
 ghost use Rattle.text.specs.Text.{put, after};
-ghost use Rattle.jp2info.specs.Quote.{digit, escape, shown, together, front, quoted};
+ghost use Rattle.jp2info.specs.Quote.{digit, escape, shownByte, together, firstCharacter, quoted};
 use crate::utf8::character;
 use text::text;
 
@@ -34,7 +34,7 @@ fn together(s: &[u8]) -> usize
 }
 
 fn front(d: &mut [u8], at: usize, json: bool, n: usize, s: &[u8]) -> usize
-    ensures { λ r. ⌜ (r ≡ after (now (d .entry)) at (front json n (now (s .entry)))) × (now (d .exit) ≡ put (now (d .entry)) at (front json n (now (s .entry)))) ⌝ }
+    ensures { λ r. ⌜ (r ≡ after (now (d .entry)) at (firstCharacter json n (now (s .entry)))) × (now (d .exit) ≡ put (now (d .entry)) at (firstCharacter json n (now (s .entry)))) ⌝ }
 {
     if 1 < n {
         return text(d, at, box_number::part(s, 0, n));
@@ -43,7 +43,7 @@ fn front(d: &mut [u8], at: usize, json: bool, n: usize, s: &[u8]) -> usize
 }
 
 fn shown(d: &mut [u8], at: usize, json: bool, b: u8) -> usize
-    ensures { λ r. ⌜ (r ≡ after (now (d .entry)) at (shown json b)) × (now (d .exit) ≡ put (now (d .entry)) at (shown json b)) ⌝ }
+    ensures { λ r. ⌜ (r ≡ after (now (d .entry)) at (shownByte json b)) × (now (d .exit) ≡ put (now (d .entry)) at (shownByte json b)) ⌝ }
 {
     if b < 0x20 {
         return by_number(d, at, json, b);

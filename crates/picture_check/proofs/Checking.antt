@@ -21,17 +21,17 @@ use Rattle.picture_rules.proofs.Mappings.{channels-few}
 use Rattle.picture_check.specs.declared.Checked.{Checked}
 use Rattle.picture_check.specs.declared.Checked.the-variants.{Passed, Refused}
 use Rattle.picture_check.specs.Checked.{checked}
-use Rattle.picture_check.specs.Private.Parts.{Inside, Named}
+use Rattle.picture_check.specs.Private.Parts.{ListInside, Named}
 
 -- where nothing lies outside
 module _ (f : List ℕ) (m : Jp2) (i : Image) (inside : Says false (outsideLists i or outsideFile f m)) where
-  pub definitions-inside : Inside 6 f (m .lists .cdef)
+  pub definitions-inside : ListInside 6 f (m .lists .cdef)
   definitions-inside h = inside .1 .1 .1 (λ y. omega arith) .1
 
   pub definitions-few : 0 < m .lists .cdef .count → m .lists .cdef .count ≤ 65535
   definitions-few h = inside .1 .1 .1 (λ y. omega arith) .0
 
-  pub mappings-inside : Inside 4 f (m .lists .cmap)
+  pub mappings-inside : ListInside 4 f (m .lists .cmap)
   mappings-inside h = inside .1 .1 .0 (λ y. omega arith) .1
 
   pub mappings-few : 0 < m .lists .cmap .count → m .lists .cmap .count ≤ 255

@@ -14,7 +14,7 @@ use Rattle.read_record.specs.declared.Span.{Span}
 use Rattle.read_channels.specs.Cdef.{Cn}
 use Rattle.box_number.specs.Lowest.{lowest}
 use Rattle.picture_rules.specs.Check.{undefined}
-use Rattle.picture_check.specs.Private.Parts.{mark, unmarked}
+use Rattle.picture_check.specs.Private.Parts.{seenAfter, unmarked}
 use Rattle.box_number.proofs.Answers.{same}
 use Rattle.box_number.proofs.Indices.{lowest-most, lowest-same}
 
@@ -25,38 +25,38 @@ unset (suc n) zero = refl
 unset (suc n) (suc c) = unset n c
 
 module _ (f : List ℕ) (l : Span) where
-  pub mark-none : (c : ℕ) → 0 ≡ mark f l 0 c
-  unfolding mark lowest
+  pub mark-none : (c : ℕ) → 0 ≡ seenAfter f l 0 c
+  unfolding seenAfter lowest
   mark-none c = row 1 _ (omega arith, tt) refl
 
-  mark-named : (c j : ℕ) → Cn f l j ≡ c → 1 ≡ mark f l (suc j) c
-  unfolding mark lowest
+  mark-named : (c j : ℕ) → Cn f l j ≡ c → 1 ≡ seenAfter f l (suc j) c
+  unfolding seenAfter lowest
   mark-named c j e =
       let b : lowest (λ i. Cn f l i =? c) (suc j) < suc j =
       each (λ (x : ℕ). x < suc j) _ ((λ h. omega arith), λ h. ((λ p. omega arith), λ p. absurd (p e))) in
       row 0 _ b refl
 
-  mark-kept : (c j : ℕ) → (Cn f l j ≡ c → ⊥) → mark f l j c ≡ mark f l (suc j) c
-  unfolding mark lowest
+  mark-kept : (c j : ℕ) → (Cn f l j ≡ c → ⊥) → seenAfter f l j c ≡ seenAfter f l (suc j) c
+  unfolding seenAfter lowest
   mark-kept c j d =
-      each (λ (x : ℕ). x ≡ mark f l (suc j) c) _ (
+      each (λ (x : ℕ). x ≡ seenAfter f l (suc j) c) _ (
         (λ h. row 0 _ (each (λ (x : ℕ). x < suc j) _ ((λ g. omega arith), λ g. absurd (omega arith))) refl),
         λ h. row 1 _ (each (λ (x : ℕ). suc j ≤ x) _ ((λ g. absurd (omega arith)), λ g. ((λ p. absurd (d p)), λ p. omega arith)), tt) refl,
       )
 
   -- one definition more
-  pub marks-next : (seen : List ℕ) (j : ℕ) {n : ℕ} → n ≡ Cn f l j → n < length seen → ((c : ℕ) → c < length seen → getD seen c 0 ≡ mark f l j c)
-      → (c : ℕ) → c < length seen → getD (set seen n 1) c 0 ≡ mark f l (j + 1) c
+  pub marks-next : (seen : List ℕ) (j : ℕ) {n : ℕ} → n ≡ Cn f l j → n < length seen → ((c : ℕ) → c < length seen → getD seen c 0 ≡ seenAfter f l j c)
+      → (c : ℕ) → c < length seen → getD (set seen n 1) c 0 ≡ seenAfter f l (j + 1) c
   marks-next seen j {n} e b h c k = rw (add-one j) (go (ℕ-discrete c n))
     where
-      go : Dec (c ≡ n) → getD (set seen n 1) c 0 ≡ mark f l (suc j) c
+      go : Dec (c ≡ n) → getD (set seen n 1) c 0 ≡ seenAfter f l (suc j) c
       go (yes d) = rw d (getD-set-same seen n 1 0 b ∙ mark-named n j (sym e))
       go (no d) = getD-set-other seen n c 1 0 d ∙ h c k ∙ mark-kept c j (λ z. d (sym (e ∙ z)))
 
   -- the channels without a mark are those that no definition names
-  pub marks-all : (seen : List ℕ) (k : ℕ) → (l .count ≡ 0 → ⊥) → ((c : ℕ) → c < k → getD seen c 0 ≡ mark f l (l .count) c)
+  pub marks-all : (seen : List ℕ) (k : ℕ) → (l .count ≡ 0 → ⊥) → ((c : ℕ) → c < k → getD seen c 0 ≡ seenAfter f l (l .count) c)
       → lowest (unmarked seen) k ≡ lowest (undefined f l) k
-  unfolding mark
+  unfolding seenAfter
   marks-all seen k some-count h =
       lowest-same (unmarked seen) (undefined f l) k
       (λ c b.

@@ -5,7 +5,7 @@ ghost use lib.ListN.{length, getD};
 ghost use Rattle.box_number.specs.Table.{holds};
 ghost use Rattle.box_number.specs.Lowest.{lowest};
 ghost use Rattle.picture_rules.specs.Check.{misnamed, undefined};
-ghost use Rattle.picture_check.specs.Private.Parts.{Inside, unmarked, mark, Markable, Named};
+ghost use Rattle.picture_check.specs.Private.Parts.{ListInside, unmarked, seenAfter, Markable, Named};
 use read_record::Span;
 
 // The bytes of a definition.
@@ -44,7 +44,7 @@ fn is_misnamed(f: &[u8], l: Span, k: u32, j: usize) -> bool
 
 // The first definition that names a channel, or a colour, that is not below k; the count where none does.
 pub fn first_misnamed(f: &[u8], l: Span, k: u32) -> usize
-    requires { ⌜ Inside 6 (now f) l ⌝ }
+    requires { ⌜ ListInside 6 (now f) l ⌝ }
     ensures { λ r. ⌜ r ≡ lowest (misnamed (now (f .entry)) l k) (l .count) ⌝ }
 {
     let count = l.count;
@@ -61,7 +61,7 @@ pub fn first_misnamed(f: &[u8], l: Span, k: u32) -> usize
 // Marks the channel that each definition names.
 fn mark_defined(f: &[u8], l: Span, seen: &mut [u8])
     requires { ⌜ Markable (now f) l (now seen) ⌝ }
-    ensures { λ _. ⌜ ((c : ℕ) → c < length (now (seen .entry)) → getD (now (seen .exit)) c 0 ≡ mark (now (f .entry)) l (l .count) c) ⌝ }
+    ensures { λ _. ⌜ ((c : ℕ) → c < length (now (seen .entry)) → getD (now (seen .exit)) c 0 ≡ seenAfter (now (f .entry)) l (l .count) c) ⌝ }
 {
     let place = l.place;
     let count = l.count;

@@ -7,7 +7,7 @@ ghost use Rattle.box_number.specs.Lowest.{lowest};
 ghost use Rattle.picture_rules.specs.Image.{listed};
 ghost use Rattle.picture_rules.specs.Channels.{direct, corrected};
 ghost use Rattle.picture_rules.specs.Check.{mismapped, dataless};
-ghost use Rattle.picture_check.specs.Private.Parts.{Inside};
+ghost use Rattle.picture_check.specs.Private.Parts.{ListInside};
 use read_record::Span;
 
 // The bytes of a mapping.
@@ -41,7 +41,7 @@ fn is_mismapped(f: &[u8], l: Span, n: u32, c: usize) -> bool
 
 // The first mapping that fails, with n components; the count where none does.
 pub fn first_mismapped(f: &[u8], l: Span, n: u32) -> usize
-    requires { ⌜ Inside 4 (now f) l ⌝ }
+    requires { ⌜ ListInside 4 (now f) l ⌝ }
     ensures { λ r. ⌜ r ≡ lowest (mismapped (now (f .entry)) l n) (l .count) ⌝ }
 {
     let count = l.count;
@@ -57,7 +57,7 @@ pub fn first_mismapped(f: &[u8], l: Span, n: u32) -> usize
 
 // The first direct mapping from 1 up; the count where there is none.
 fn first_direct(f: &[u8], l: Span) -> usize
-    requires { ⌜ Inside 4 (now f) l ⌝ }
+    requires { ⌜ ListInside 4 (now f) l ⌝ }
     ensures { λ r. ⌜ r ≡ lowest (direct (now (f .entry)) l) (l .count) ⌝ }
 {
     let place = l.place;
@@ -74,7 +74,7 @@ fn first_direct(f: &[u8], l: Span) -> usize
 
 // Whether the mappings are to be corrected, with n components.
 pub fn is_corrected(f: &[u8], l: Span, n: u32) -> bool
-    requires { ⌜ Inside 4 (now f) l ⌝ }
+    requires { ⌜ ListInside 4 (now f) l ⌝ }
     ensures { λ r. ⌜ r ≡ holds (l .count ≠? 0 and corrected (now (f .entry)) l n) ⌝ }
 {
     let count = l.count;
@@ -92,7 +92,7 @@ pub fn is_corrected(f: &[u8], l: Span, n: u32) -> bool
 
 // The first mapping whose component has no samples; the count where each has some.
 pub fn first_dataless(f: &[u8], l: Span, comps: &[u32]) -> usize
-    requires { ⌜ Inside 4 (now f) l ⌝ }
+    requires { ⌜ ListInside 4 (now f) l ⌝ }
     ensures { λ r. ⌜ r ≡ lowest (dataless (now (f .entry)) l (listed (now (comps .entry)))) (l .count) ⌝ }
 {
     let place = l.place;

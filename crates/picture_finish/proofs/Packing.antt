@@ -9,11 +9,11 @@ use lib.ListN.{length, take, take-append-drop}
 use Rattle.box_number.specs.Table.{_or_}
 use Rattle.box_number.specs.Number.{placed}
 use Rattle.box_number.proofs.Rows.{row}
-use Rattle.picture_rules.specs.Image.{listed, first, none, size}
+use Rattle.picture_rules.specs.Image.{listed, first, noData, size}
 use Rattle.picture_planes.specs.declared.Column.{Column}
-use Rattle.picture_planes.specs.Written.{written}
+use Rattle.picture_planes.specs.Written.{writtenUnless}
 use Rattle.picture_planes.specs.Column.{noColumn, picked}
-use Rattle.picture_planes.specs.Plane.{plane, outside}
+use Rattle.picture_planes.specs.Plane.{samplesOf, samplesOutside}
 use Rattle.picture_planes.proofs.Picks.{map-same}
 use Rattle.picture_finish.specs.Private.Parts.{valueBy, samplesAt, Packable}
 
@@ -24,7 +24,7 @@ direct s k typ h (v ∷ l) = ap₂ _∷_ (row 1 _ (h, tt) refl) (direct s k typ 
 
 -- the samples of component r
 abbrev source : List ℕ → List ℤ → ℕ → List ℤ
-source comps samples r = plane samples (first (listed comps) r) (size (listed comps) r)
+source comps samples r = samplesOf samples (first (listed comps) r) (size (listed comps) r)
 
 module _ (s : List ℕ) (k : Column) (comps : List ℕ) (samples : List ℤ) (r typ : ℕ) (d : List ℤ) (at : ℕ) where
   -- a component without samples changes nothing
@@ -32,15 +32,15 @@ module _ (s : List ℕ) (k : Column) (comps : List ℕ) (samples : List ℤ) (r 
   unfolding placed
   placed-blank e = rw (← e, add-zero at, append-nil (take at d)) (sym (take-append-drop at d))
 
-  module _ (h : Packable k comps samples r typ (length d) at) (some : first (listed comps) r ≡ none → ⊥) {from n : ℕ} {e : List ℤ} (u : from ≡ first (listed comps) r) (v : n ≡ size (listed comps) r) where
-    pub placed-looked : typ ≡ 1 → e ≡ written (noColumn k or outside samples from n d at) d at (map (picked s k) (plane samples from n)) → e ≡ placed d at (samplesAt s k comps samples r typ)
-    unfolding written
+  module _ (h : Packable k comps samples r typ (length d) at) (some : first (listed comps) r ≡ noData → ⊥) {from n : ℕ} {e : List ℤ} (u : from ≡ first (listed comps) r) (v : n ≡ size (listed comps) r) where
+    pub placed-looked : typ ≡ 1 → e ≡ writtenUnless (noColumn k or samplesOutside samples from n d at) d at (map (picked s k) (samplesOf samples from n)) → e ≡ placed d at (samplesAt s k comps samples r typ)
+    unfolding writtenUnless
     placed-looked t q =
         let p : e ≡ placed d at (map (picked s k) (source comps samples r)) = rw (u, v) at q ∙ sym (row 1 _ ((h .column t, (h .inside some, h .fits)), tt) refl) in
         p ∙ ap (placed d at) (map-same (λ x. row 0 _ t refl) (source comps samples r))
 
-    pub placed-copied : (typ ≡ 1 → ⊥) → e ≡ written (outside samples from n d at) d at (plane samples from n) → e ≡ placed d at (samplesAt s k comps samples r typ)
-    unfolding written
+    pub placed-copied : (typ ≡ 1 → ⊥) → e ≡ writtenUnless (samplesOutside samples from n d at) d at (samplesOf samples from n) → e ≡ placed d at (samplesAt s k comps samples r typ)
+    unfolding writtenUnless
     placed-copied t q =
         let p : e ≡ placed d at (source comps samples r) = rw (u, v) at q ∙ sym (row 1 _ ((h .inside some, h .fits), tt) refl) in
         p ∙ ap (placed d at) (direct s k typ t (source comps samples r))

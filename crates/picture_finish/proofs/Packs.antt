@@ -23,7 +23,7 @@ use Rattle.picture_rules.proofs.Mappings.{kept, plain-type, component-inside}
 use Rattle.box_number.specs.Number.{number, placed}
 use Rattle.picture_planes.specs.declared.Column.{Column}
 use Rattle.picture_planes.specs.Column.{noColumn}
-use Rattle.picture_planes.specs.Plane.{plane}
+use Rattle.picture_planes.specs.Plane.{samplesOf}
 use Rattle.picture_planes.proofs.Picks.{map-same}
 use Rattle.box_number.proofs.Placing.{placed-after}
 use Rattle.picture_finish.specs.Answers.{fronted}
@@ -78,7 +78,7 @@ module _ (f : List ℕ) (m : Jp2) (comps : List ℕ) (count : ℕ) (samples : Li
 
     samples-are : (c : ℕ) {s : List ℕ} {k : Column} → s ≡ rest → k ≡ columnFor c → samplesAt s k comps samples (r c) (typeBy f (m .lists .cmap) (flag correct) c) ≡ channelSamples f m i c
     unfolding componentOf size channelSamples valueOf
-    samples-are c d e = rw (type-is c) (map-same (of.value-is f (m .lists .pclr) c (typeOf f m count c) d e) (plane samples (first i (componentOf f m c)) (size i (componentOf f m c))))
+    samples-are c d e = rw (type-is c) (map-same (of.value-is f (m .lists .pclr) c (typeOf f m count c) d e) (samplesOf samples (first i (componentOf f m c)) (size i (componentOf f m c))))
 
     module _ (tested : Tested f m i) (n : ℕ) (all : n ≡ channels m count) where
       -- every channel's component has its samples in the list

@@ -9,7 +9,7 @@ use lib.ListN.{length}
 use Rattle.box_number.specs.Table.{_=?_}
 use Rattle.box_number.proofs.Rows.{row, each}
 use Rattle.read_record.specs.declared.Jp2.{Jp2}
-use Rattle.picture_rules.specs.Image.{Image, image, listed, first, none, size}
+use Rattle.picture_rules.specs.Image.{Image, image, listed, first, noData, size}
 use Rattle.picture_rules.specs.Channels.{channels, componentOf}
 use Rattle.picture_rules.specs.Samples.{startOf}
 use Rattle.picture_rules.specs.Finish.{Finishing, finished, declined, picture, fitted}
@@ -56,7 +56,7 @@ module _ (f : List ℕ) (m : Jp2) (comps : List ℕ) (count : ℕ) (samples : Li
   -- a component whose samples lie in their list has no more of them than the list
   size-most : (r : ℕ) → length samples ≤ 4294967294 → Within i r → size (listed comps) r ≤ 4294967294
   size-most r few within =
-      decide (first i r =? none)
+      decide (first i r =? noData)
       (λ e. omega (arith, size-none comps r e))
       (λ some. omega (arith, size-area comps r some, within some))
 

@@ -26,7 +26,7 @@ use Rattle.picture_rules.proofs.Destinations.{right-in-place, every-in-place}
 use Rattle.picture_finish.specs.declared.Finished.{Finished}
 use Rattle.picture_finish.specs.declared.Finished.the-variants.{Planes, Refused}
 use Rattle.picture_finish.specs.Answers.{answered, recordsAfter, samplesAfter, Done}
-use Rattle.picture_rules.specs.Met.{Met, direct, directPlanes, paletted, palettedPlanes}
+use Rattle.picture_rules.specs.Met.{Met, directExample, directPlanes, paletted, palettedPlanes}
 use Rattle.picture_rules.proofs.Mets.{direct-met, palette-met}
 use Rattle.picture_finish.proofs.Colours.{declined-done}
 use Rattle.picture_finish.specs.Whole.{pictured, PictureRight, PictureFilled, ReadPicture, Speaks}
@@ -96,8 +96,8 @@ speaks h planes other met =
       filled = λ rule. (met .kept, rule (met .kept) (planes .count) (met .accepted .reading) refl);
     }
 
-pub speaks-direct : Speaks direct directPlanes
-speaks-direct = speaks direct directPlanes _ direct-met
+pub speaks-direct : Speaks directExample directPlanes
+speaks-direct = speaks directExample directPlanes _ direct-met
 
 pub speaks-paletted : Speaks paletted palettedPlanes
 speaks-paletted = speaks paletted palettedPlanes _ palette-met

@@ -13,23 +13,23 @@ use Rattle.picture_rules.specs.Order.{arranged}
 use Rattle.picture_rules.specs.Flat.{flat}
 use Rattle.picture_rules.proofs.Flats.{flat-length, flat-at}
 use Rattle.picture_rules.proofs.Alike.{arranged-alike}
-use Rattle.picture_order.specs.Flat.{numberOf, outside, reordered, afterwards}
+use Rattle.picture_order.specs.Flat.{numberAt, reorderOutside, reordered, afterwards}
 use Rattle.picture_order.specs.Comps.{numbered}
 use Rattle.picture_order.specs.Agree.{RecordByRecord}
 use Rattle.picture_order.proofs.Numbered.{numbered-at}
 
 -- number k of record r of a list that was put in order
-number-in-order : (f : List ℕ) (cdef : Span) (n : ℕ) (l : List ℕ) (r k : ℕ) → r < n → k < 13 → numberOf (reordered f cdef n l) r k ≡ arranged n (definitions f cdef) (numberOf l) .records r k
+number-in-order : (f : List ℕ) (cdef : Span) (n : ℕ) (l : List ℕ) (r k : ℕ) → r < n → k < 13 → numberAt (reordered f cdef n l) r k ≡ arranged n (definitions f cdef) (numberAt l) .records r k
 unfolding reordered
 number-in-order f cdef n l r k h b =
-    let records = arranged n (definitions f cdef) (numberOf l) .records in
+    let records = arranged n (definitions f cdef) (numberAt l) .records in
     List·getD-append (flat records (13 * n)) (drop (13 * n) l) 0 (13 * r + k) (omega (arith, flat-length records (13 * n))) ∙ flat-at records n r k h b
 
-inside-is : (f : List ℕ) (cdef : Span) (n : ℕ) (l : List ℕ) → Says false (outside f cdef n l) → afterwards f cdef n l ≡ reordered f cdef n l
+inside-is : (f : List ℕ) (cdef : Span) (n : ℕ) (l : List ℕ) → Says false (reorderOutside f cdef n l) → afterwards f cdef n l ≡ reordered f cdef n l
 unfolding afterwards
 inside-is f cdef n l h = sym (row 1 _ (h, tt) refl)
 
 pub record-by-record : RecordByRecord
 record-by-record f cdef n cs after inside e r k h b =
-    sym (numbered-at after r k b) ∙ ap (λ l. numberOf l r k) (e ∙ inside-is f cdef n (numbered cs) inside) ∙ number-in-order f cdef n (numbered cs) r k h b
-    ∙ arranged-alike n (definitions f cdef) (numberOf (numbered cs)) _ (λ p i _ c. numbered-at cs p i c) r k h b
+    sym (numbered-at after r k b) ∙ ap (λ l. numberAt l r k) (e ∙ inside-is f cdef n (numbered cs) inside) ∙ number-in-order f cdef n (numbered cs) r k h b
+    ∙ arranged-alike n (definitions f cdef) (numberAt (numbered cs)) _ (λ p i _ c. numbered-at cs p i c) r k h b

@@ -10,7 +10,7 @@ use lib.Seq.{getD-set-same, getD-set-other}
 use Rattle.box_number.specs.Table.{_=?_, _and_, otherwise, _⇒_∣_, table}
 use Rattle.box_number.proofs.Rows.{each}
 use Rattle.picture_rules.specs.Order.{Arranged, exchange, swapped, marked}
-use Rattle.picture_order.specs.Flat.{numberOf}
+use Rattle.picture_order.specs.Flat.{numberAt}
 use Rattle.picture_order.specs.Private.Steps.{Exchanged, Positioned, Agree}
 use Rattle.picture_rules.proofs.Exchange
 use Rattle.picture_order.proofs.Swapping.{getD-swap}
@@ -27,13 +27,13 @@ positioned-start n positions channels few s h e f = record {
   here = λ p i. rw (f p i) (e p i);
 }
 
-pub agree-start : (n : ℕ) (recs positions : List ℕ) → ((c : ℕ) → c < n → getD positions c 0 ≡ c) → Agree n recs positions (record { seat = λ c. c; records = numberOf recs })
+pub agree-start : (n : ℕ) (recs positions : List ℕ) → ((c : ℕ) → c < n → getD positions c 0 ≡ c) → Agree n recs positions (record { seat = λ c. c; records = numberAt recs })
 agree-start n recs positions e = record { located = λ c h. sym (e c h); past = λ c h. h; says = λ r k l. refl }
 
 -- a mark
-mark-at : (l : List ℕ) (p t r k : ℕ) → 13 * p + 13 ≤ length l → k < 13 → table (r =? p and k =? 12 ⇒ t ∣ otherwise (numberOf l r k)) ≡ numberOf (set l (13 * p + 12) t) r k
+mark-at : (l : List ℕ) (p t r k : ℕ) → 13 * p + 13 ≤ length l → k < 13 → table (r =? p and k =? 12 ⇒ t ∣ otherwise (numberAt l r k)) ≡ numberAt (set l (13 * p + 12) t) r k
 mark-at l p t r k room hk =
-    each (λ x. x ≡ numberOf (set l (13 * p + 12) t) r k) (r =? p and k =? 12 ⇒ t ∣ otherwise (numberOf l r k)) (
+    each (λ x. x ≡ numberAt (set l (13 * p + 12) t) r k) (r =? p and k =? 12 ⇒ t ∣ otherwise (numberAt l r k)) (
       (λ h. rw (h .0, h .1) (sym (getD-set-same l (13 * p + 12) t 0 (omega arith)))),
       (λ h. sym (getD-set-other l (13 * p + 12) (13 * r + k) t 0 (λ e. h (omega arith) (omega arith)))),
     )
@@ -50,7 +50,7 @@ pub agree-same : (n : ℕ) (recs positions recs′ : List ℕ) (p : ℕ) (a : Ar
 agree-same n recs positions recs′ p a x g = record {
   located = g .located;
   past = g .past;
-  says = λ r k l. g .says r k l ∙ ap (λ i. numberOf recs i k) (sym (Exchange.none p r)) ∙ sym (x r k l);
+  says = λ r k l. g .says r k l ∙ ap (λ i. numberAt recs i k) (sym (Exchange.none p r)) ∙ sym (x r k l);
 }
 
 -- channel c, at position p, changes places with the channel at position q

@@ -10,7 +10,7 @@ use lib.ListN.{length, getD}
 use Rattle.box_number.proofs.Rows.{Says, row, each}
 use Rattle.read_record.specs.declared.Span.{Span}
 use Rattle.picture_rules.specs.Flat.{flat}
-use Rattle.picture_order.specs.Flat.{outside, reordered, answered, afterwards}
+use Rattle.picture_order.specs.Flat.{reorderOutside, reordered, answered, afterwards}
 use Rattle.picture_order.specs.Comps.{numbered}
 use Rattle.picture_order.specs.Private.Steps.{listOf, Started}
 use Rattle.picture_order.specs.Private.Task.{astray, task, Tasked}
@@ -28,10 +28,10 @@ no-records f cdef n l e = rw e refl
 module _ (f : List ℕ) (cdef : Span) (m n : ℕ) where
   -- m records are the whole records of l
   module _ (l : List ℕ) (low : 13 * m ≤ length l) (high : length l < 13 * m + 13) where
-    out : Says true (astray f cdef m n) → Says true (outside f cdef n l)
+    out : Says true (astray f cdef m n) → Says true (reorderOutside f cdef n l)
     out h = λ x y. h x (omega arith)
 
-    inside : Says false (astray f cdef m n) → Says false (outside f cdef n l)
+    inside : Says false (astray f cdef m n) → Says false (reorderOutside f cdef n l)
     inside h = (h .0, (omega (arith, h .1 .0), h .1 .1))
 
     unchanged : Says false (astray f cdef m n) → ((n ≡ 0 → ⊥) → cdef .count ≡ 0) → reordered f cdef n l ≡ l

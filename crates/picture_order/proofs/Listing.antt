@@ -13,10 +13,10 @@ use Rattle.box_number.specs.Table.{_=?_, _and_, otherwise, _⇒_∣_, table}
 use Rattle.box_number.proofs.Rows.{row, each, either}
 use Rattle.read_record.specs.declared.Span.{Span}
 use Rattle.read_channels.specs.Definitions.{Def, definition, definitions, definitionsTo}
-use Rattle.picture_rules.specs.Order.{Arranged, define, run, arranged}
+use Rattle.picture_rules.specs.Order.{Arranged, define, runDefinitions, arranged}
 use Rattle.picture_rules.specs.Flat.{flat}
 use Rattle.picture_rules.proofs.Flats.{flat-length, flat-number}
-use Rattle.picture_order.specs.Flat.{numberOf, reordered}
+use Rattle.picture_order.specs.Flat.{numberAt, reordered}
 use Rattle.picture_order.specs.Private.Steps.{Agree}
 use Rattle.picture_rules.proofs.Exchange
 use Rattle.picture_rules.proofs.Steps.{rows}
@@ -38,14 +38,14 @@ module _ (n r k : ℕ) (h : n ≤ r) where
         ),
       )
 
-  beyond-run : (ds : List Def) (a : Arranged) → run n ds a .records r k ≡ a .records r k
-  unfolding run
+  beyond-run : (ds : List Def) (a : Arranged) → runDefinitions n ds a .records r k ≡ a .records r k
+  unfolding runDefinitions
   beyond-run [] a = refl
   beyond-run (d ∷ ds) a = beyond-run ds (define n d a) ∙ beyond d a
 
 -- one definition more
-run-last : (n : ℕ) (ds : List Def) (d : Def) (a : Arranged) → run n (ds ++ (d ∷ [])) a ≡ define n d (run n ds a)
-unfolding run
+run-last : (n : ℕ) (ds : List Def) (d : Def) (a : Arranged) → runDefinitions n (ds ++ (d ∷ [])) a ≡ define n d (runDefinitions n ds a)
+unfolding runDefinitions
 run-last n [] d a = refl
 run-last n (e ∷ ds) d a = run-last n ds d (define n e a)
 
@@ -53,7 +53,7 @@ pub agree-more : (f : List ℕ) (l : Span) (n i : ℕ) (records : ℕ → ℕ �
 unfolding definitionsTo
 agree-more f l n i records recs positions g = rw (add-one, run-last n (definitionsTo f l i) (definition f l i)) g
 
-pub whole : (f : List ℕ) (cdef : Span) (n : ℕ) (l recs : List ℕ) → length recs ≡ length l → 13 * n ≤ length l → ((r k : ℕ) → k < 13 → arranged n (definitions f cdef) (numberOf l) .records r k ≡ numberOf recs r k) → recs ≡ reordered f cdef n l
+pub whole : (f : List ℕ) (cdef : Span) (n : ℕ) (l recs : List ℕ) → length recs ≡ length l → 13 * n ≤ length l → ((r k : ℕ) → k < 13 → arranged n (definitions f cdef) (numberAt l) .records r k ≡ numberAt recs r k) → recs ≡ reordered f cdef n l
 unfolding reordered
 whole f cdef n l recs e room says =
     ext-getD 0 recs (flat records (13 * n) ++ drop (13 * n) l)
@@ -61,7 +61,7 @@ whole f cdef n l recs e room says =
     (λ i h. either (ltb i (13 * n)) (λ b. low i (ltb-true i (13 * n) b)) (λ b. high i (ltb-false i (13 * n) b)))
   where
     records : ℕ → ℕ → ℕ
-    records = arranged n (definitions f cdef) (numberOf l) .records
+    records = arranged n (definitions f cdef) (numberAt l) .records
 
     parts : (i : ℕ) → 13 * (i / 13) + i % 13 ≡ i
     parts i = omega arith

@@ -11,9 +11,9 @@ use lib.Seq.{getD-set-same, getD-set-other, getD-append-add}
 use Rattle.read_channels.specs.Definitions.{definition}
 use Rattle.picture_rules.specs.Order.{exchange, define}
 use Rattle.picture_rules.proofs.Exchange
-use Rattle.picture_order.specs.Flat.{numberOf}
+use Rattle.picture_order.specs.Flat.{numberAt}
 use Rattle.picture_order.specs.Private.Steps.{Exchanged, Agree, listOf, markIf, Decided, Stepped}
-use Rattle.picture_order.specs.Comps.{none, numbers, numbered, swapped, with-alpha, marked, asked}
+use Rattle.picture_order.specs.Comps.{noRecord, numbersOf, numbered, swappedRecords, with-alpha, markedRecords, afterAsk}
 use Rattle.picture_order.specs.declared.positions.Ask.{Ask}
 use Rattle.picture_order.specs.declared.task.Run.{Run}
 use Rattle.picture_order.specs.declared.lent.Comp.{Comp}
@@ -24,62 +24,62 @@ numbered-length [] = refl
 numbered-length (c ∷ cs) = rw length-append (omega (arith, numbered-length cs))
 
 -- number k of record r
-pub numbered-at : (cs : List Comp) (r k : ℕ) → k < 13 → numberOf (numbered cs) r k ≡ getD (numbers (getD cs r none)) k 0
+pub numbered-at : (cs : List Comp) (r k : ℕ) → k < 13 → numberAt (numbered cs) r k ≡ getD (numbersOf (getD cs r noRecord)) k 0
 unfolding numbered
 numbered-at [] r k h = sym (getD-replicate 13 k 0 0 h)
 numbered-at (c ∷ cs) zero k h =
     let e : 13 * zero + k ≡ k = omega arith in
-    ap (λ i. getD (numbers c ++ numbered cs) i 0) e ∙ List·getD-append (numbers c) (numbered cs) 0 k h
+    ap (λ i. getD (numbersOf c ++ numbered cs) i 0) e ∙ List·getD-append (numbersOf c) (numbered cs) 0 k h
 numbered-at (c ∷ cs) (suc r) k h =
     let e : 13 * suc r + k ≡ 13 + (13 * r + k) = omega arith in
-    ap (λ i. getD (numbers c ++ numbered cs) i 0) e ∙ getD-append-add (numbers c) (numbered cs) (13 * r + k) 0 ∙ numbered-at cs r k h
+    ap (λ i. getD (numbersOf c ++ numbered cs) i 0) e ∙ getD-append-add (numbersOf c) (numbered cs) (13 * r + k) 0 ∙ numbered-at cs r k h
 
-pub swapped-length : (l : List Comp) (i j : ℕ) → length (swapped l i j) ≡ length l
-swapped-length l i j = length-set (set l i (getD l j none)) j (getD l i none) ∙ length-set l i (getD l j none)
+pub swapped-length : (l : List Comp) (i j : ℕ) → length (swappedRecords l i j) ≡ length l
+swapped-length l i j = length-set (set l i (getD l j noRecord)) j (getD l i noRecord) ∙ length-set l i (getD l j noRecord)
 
-getD-swapped : (l : List Comp) (a b i : ℕ) → a < length l → b < length l → getD (swapped l a b) i none ≡ getD l (exchange a b i) none
+getD-swapped : (l : List Comp) (a b i : ℕ) → a < length l → b < length l → getD (swappedRecords l a b) i noRecord ≡ getD l (exchange a b i) noRecord
 getD-swapped l a b i ha hb =
-    Exchange.cases (λ x. getD (swapped l a b) i none ≡ getD l x none) a b i
+    Exchange.cases (λ x. getD (swappedRecords l a b) i noRecord ≡ getD l x noRecord) a b i
     (λ e. one e (ℕ-discrete i b))
     (λ e. rw e last)
-    (λ e f. getD-set-other (set l a (getD l b none)) b i (getD l a none) none f ∙ getD-set-other l a i (getD l b none) none e)
+    (λ e f. getD-set-other (set l a (getD l b noRecord)) b i (getD l a noRecord) noRecord f ∙ getD-set-other l a i (getD l b noRecord) noRecord e)
   where
-    last : getD (swapped l a b) b none ≡ getD l a none
-    last = getD-set-same (set l a (getD l b none)) b (getD l a none) none (rw (length-set l a (getD l b none)) hb)
+    last : getD (swappedRecords l a b) b noRecord ≡ getD l a noRecord
+    last = getD-set-same (set l a (getD l b noRecord)) b (getD l a noRecord) noRecord (rw (length-set l a (getD l b noRecord)) hb)
 
-    one : i ≡ a → Dec (i ≡ b) → getD (swapped l a b) i none ≡ getD l b none
-    one e (yes f) = ap (λ x. getD (swapped l a b) x none) f ∙ last ∙ ap (λ x. getD l x none) (sym e ∙ f)
+    one : i ≡ a → Dec (i ≡ b) → getD (swappedRecords l a b) i noRecord ≡ getD l b noRecord
+    one e (yes f) = ap (λ x. getD (swappedRecords l a b) x noRecord) f ∙ last ∙ ap (λ x. getD l x noRecord) (sym e ∙ f)
     one e (no f) =
-        getD-set-other (set l a (getD l b none)) b i (getD l a none) none f ∙ ap (λ x. getD (set l a (getD l b none)) x none) e
-        ∙ getD-set-same l a (getD l b none) none ha
+        getD-set-other (set l a (getD l b noRecord)) b i (getD l a noRecord) noRecord f ∙ ap (λ x. getD (set l a (getD l b noRecord)) x noRecord) e
+        ∙ getD-set-same l a (getD l b noRecord) noRecord ha
 
-pub swapped-numbered : (l : List Comp) (p q : ℕ) → p < length l → q < length l → Exchanged p q (numbered l) (numbered (swapped l p q))
+pub swapped-numbered : (l : List Comp) (p q : ℕ) → p < length l → q < length l → Exchanged p q (numbered l) (numbered (swappedRecords l p q))
 swapped-numbered l p q hp hq =
-    λ r k h. numbered-at (swapped l p q) r k h ∙ ap (λ c. getD (numbers c) k 0) (getD-swapped l p q r hp hq) ∙ sym (numbered-at l (exchange p q r) k h)
+    λ r k h. numbered-at (swappedRecords l p q) r k h ∙ ap (λ c. getD (numbersOf c) k 0) (getD-swapped l p q r hp hq) ∙ sym (numbered-at l (exchange p q r) k h)
 
-pub marked-numbered : (l : List Comp) (p t : ℕ) → p < length l → numbered (set l p (with-alpha (getD l p none) t)) ≡ set (numbered l) (13 * p + 12) t
+pub marked-numbered : (l : List Comp) (p t : ℕ) → p < length l → numbered (set l p (with-alpha (getD l p noRecord) t)) ≡ set (numbered l) (13 * p + 12) t
 unfolding numbered
 marked-numbered [] p t h = absurd (omega arith)
 marked-numbered (c ∷ l) zero t h = refl
 marked-numbered (c ∷ l) (suc p) t h =
     let e : 13 * suc p + 12 ≡ suc (suc (suc (suc (suc (suc (suc (suc (suc (suc (suc (suc (suc (13 * p + 12))))))))))))) = omega arith in
-    ap (λ x. numbers c ++ x) (marked-numbered l p t (omega arith)) ∙ sym (ap (λ i. set (numbers c ++ numbered l) i t) e)
+    ap (λ x. numbersOf c ++ x) (marked-numbered l p t (omega arith)) ∙ sym (ap (λ i. set (numbersOf c ++ numbered l) i t) e)
 
 -- what is stored where it already stands changes nothing
-pub set-self : (l : List Comp) (i : ℕ) → set l i (getD l i none) ≡ l
+pub set-self : (l : List Comp) (i : ℕ) → set l i (getD l i noRecord) ≡ l
 set-self [] i = refl
 set-self (c ∷ l) zero = refl
 set-self (c ∷ l) (suc i) = ap (λ x. c ∷ x) (set-self l i)
 
 -- a record that is marked, or stored as it is
-pub marked-if : (l : List Comp) (p t : ℕ) (on : Bool) → p < length l → numbered (marked l p t on) ≡ markIf (numbered l) p t on
+pub marked-if : (l : List Comp) (p t : ℕ) (on : Bool) → p < length l → numbered (markedRecords l p t on) ≡ markIf (numbered l) p t on
 marked-if l p t true h = marked-numbered l p t h
 marked-if l p t false h = ap numbered (set-self l p)
 
 -- records that are exchanged and marked as a definition asks
-pub stepped : (f : List ℕ) (run : Run) (k : ℕ) (positions positions′ channels′ : List ℕ) (r : Ask) (l : List Comp) → Decided f run k positions r positions′ channels′ → run .n ≤ length l → Stepped f run k (numbered l) positions (numbered (asked r l)) positions′ channels′
+pub stepped : (f : List ℕ) (run : Run) (k : ℕ) (positions positions′ channels′ : List ℕ) (r : Ask) (l : List Comp) → Decided f run k positions r positions′ channels′ → run .n ≤ length l → Stepped f run k (numbered l) positions (numbered (afterAsk r l)) positions′ channels′
 stepped f run k positions positions′ channels′ r l e h =
-    let m = swapped l (r .i) (r .j) in
+    let m = swappedRecords l (r .i) (r .j) in
     let long = swapped-length l (r .i) (r .j) in
     record {
       positioned = e .positioned;

@@ -8,7 +8,7 @@ use native.Mathlib.Decide.{ℕ-discrete}
 use lib.ListN.{length, getD, set, length-set}
 use lib.Seq.{getD-set-same, getD-set-other}
 use Rattle.picture_rules.specs.Order.{exchange}
-use Rattle.picture_order.specs.Flat.{numberOf}
+use Rattle.picture_order.specs.Flat.{numberAt}
 use Rattle.picture_order.specs.Private.Steps.{Exchanged}
 use Rattle.picture_rules.proofs.Exchange
 
@@ -48,13 +48,13 @@ off p q k r j hk hj e = Exchange.other (13 * p + k) (13 * q + k) (13 * r + j) (o
 
 -- a record that changes places with itself
 pub exchanged-self : (p q : ℕ) (l : List ℕ) → p ≡ q → Exchanged p q l l
-exchanged-self p q l e = λ r k h. ap (λ i. numberOf l i k) (sym (ap (λ x. exchange p x r) (sym e) ∙ Exchange.none p r))
+exchanged-self p q l e = λ r k h. ap (λ i. numberAt l i k) (sym (ap (λ x. exchange p x r) (sym e) ∙ Exchange.none p r))
 
 -- the first k numbers of the records p and q of l are exchanged in m
 pub record Partly (p q : ℕ) (l : List ℕ) (k : ℕ) (m : List ℕ) : Type 0 where
   pub size : length m ≡ length l
-  pub past : (r j : ℕ) → j < k → j < 13 → numberOf m r j ≡ numberOf l (exchange p q r) j
-  pub left : (r j : ℕ) → k ≤ j → j < 13 → numberOf m r j ≡ numberOf l r j
+  pub past : (r j : ℕ) → j < k → j < 13 → numberAt m r j ≡ numberAt l (exchange p q r) j
+  pub left : (r j : ℕ) → k ≤ j → j < 13 → numberAt m r j ≡ numberAt l r j
 
 pub partly-none : (p q : ℕ) (l : List ℕ) → Partly p q l 0 l
 partly-none p q l = record { size = refl; past = λ r j h i. absurd (omega arith); left = λ r j h i. refl }
@@ -66,9 +66,9 @@ partly-more p q l k m hk hp hq w = record {
   left = λ r j h i. moved r j ∙ ap (λ x. getD m x 0) (off p q k r j hk i (omega arith)) ∙ w .left r j (omega arith) i;
 }
   where
-    moved : (r j : ℕ) → numberOf (swap m (13 * p + k) (13 * q + k)) r j ≡ getD m (exchange (13 * p + k) (13 * q + k) (13 * r + j)) 0
+    moved : (r j : ℕ) → numberAt (swap m (13 * p + k) (13 * q + k)) r j ≡ getD m (exchange (13 * p + k) (13 * q + k) (13 * r + j)) 0
     moved r j = getD-swap m _ _ (13 * r + j) (omega (arith, w .size)) (omega (arith, w .size))
 
-    go : (r j : ℕ) → j < k + 1 → j < 13 → Dec (j ≡ k) → getD m (exchange (13 * p + k) (13 * q + k) (13 * r + j)) 0 ≡ numberOf l (exchange p q r) j
+    go : (r j : ℕ) → j < k + 1 → j < 13 → Dec (j ≡ k) → getD m (exchange (13 * p + k) (13 * q + k) (13 * r + j)) 0 ≡ numberAt l (exchange p q r) j
     go r j h i (yes e) = rw (e, spot p q k r) (w .left (exchange p q r) k (omega arith) hk)
     go r j h i (no e) = ap (λ x. getD m x 0) (off p q k r j hk i e) ∙ w .past r j (omega arith) i

@@ -9,16 +9,16 @@ use Rattle.read_record.specs.declared.Span.{Span}
 use Rattle.read_record.specs.Component.{numbersEach}
 use Rattle.read_channels.specs.Definitions.{definitions}
 use Rattle.picture_rules.specs.Order.{arranged}
-use Rattle.picture_order.specs.Flat.{outside, afterwards}
+use Rattle.picture_order.specs.Flat.{reorderOutside, afterwards}
 use Rattle.picture_order.specs.declared.lent.Comp.{Comp}
-use Rattle.picture_order.specs.Comps.{none, numbers, numbered}
+use Rattle.picture_order.specs.Comps.{noRecord, numbersOf, numbered}
 
 -- number k of record r, in the order of the fields; `data`, number 11, is the first sample's index
 abbrev pub field : List Comp → ℕ → ℕ → ℕ
-field cs r k = getD (numbers (getD cs r none)) k 0
+field cs r k = getD (numbersOf (getD cs r noRecord)) k 0
 
 -- where nothing is outside its list, each of the first n records afterwards is the one that the definitions bring there
 abbrev pub RecordByRecord : Type 0
 RecordByRecord =
-    (f : List ℕ) (cdef : Span) (n : ℕ) (cs after : List Comp) → Says false (outside f cdef n (numbered cs)) → numbered after ≡ afterwards f cdef n (numbered cs) →
+    (f : List ℕ) (cdef : Span) (n : ℕ) (cs after : List Comp) → Says false (reorderOutside f cdef n (numbered cs)) → numbered after ≡ afterwards f cdef n (numbered cs) →
     (r k : ℕ) → r < n → k < numbersEach → field after r k ≡ arranged n (definitions f cdef) (field cs) .records r k

@@ -12,22 +12,22 @@ use Rattle.picture_rules.specs.Order.{arranged}
 use Rattle.picture_rules.specs.Flat.{flat}
 
 -- number k of record r
-abbrev pub numberOf : List ℕ → ℕ → ℕ → ℕ
-numberOf l r k = getD l (numbersEach * r + k) 0
+abbrev pub numberAt : List ℕ → ℕ → ℕ → ℕ
+numberAt l r k = getD l (numbersEach * r + k) 0
 
 -- the list l with its first n records in the order of the definitions, and the rest as it was
 unfoldable pub reordered : List ℕ → Span → ℕ → List ℕ → List ℕ
 reordered f cdef n l =
-    let a = arranged n (definitions f cdef) (numberOf l) in
+    let a = arranged n (definitions f cdef) (numberAt l) in
     flat (a .records) (numbersEach * n) ++ drop (numbersEach * n) l
 
 -- number 29: too many records, records outside their list, or definitions outside the file
-abbrev pub outside : List ℕ → Span → ℕ → List ℕ → Test
-outside f cdef n l =
+abbrev pub reorderOutside : List ℕ → Span → ℕ → List ℕ → Test
+reorderOutside f cdef n l =
     mostComponents <? n or length l <? numbersEach * n or definitionsOutside f cdef
 
 unfoldable pub answered : List ℕ → Span → ℕ → List ℕ → Answer
-answered f cdef n l = table (outside f cdef n l ⇒ Refused 29 0 ∣ otherwise Done)
+answered f cdef n l = table (reorderOutside f cdef n l ⇒ Refused 29 0 ∣ otherwise Done)
 
 unfoldable pub afterwards : List ℕ → Span → ℕ → List ℕ → List ℕ
-afterwards f cdef n l = table (outside f cdef n l ⇒ l ∣ otherwise (reordered f cdef n l))
+afterwards f cdef n l = table (reorderOutside f cdef n l ⇒ l ∣ otherwise (reordered f cdef n l))

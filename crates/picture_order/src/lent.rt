@@ -3,7 +3,7 @@ ghost use mathlib.Core.Path.{_≡_};
 ghost use Prim.Native.Nat.{_+_, _*_, _≤_, _<_};
 ghost use lib.ListN.{getD, length, set};
 ghost use Rattle.picture_order.specs.Flat.{answered, afterwards, reordered};
-ghost use Rattle.picture_order.specs.Comps.{markOf, none, numbered, swapped};
+ghost use Rattle.picture_order.specs.Comps.{markOf, noRecord, numbered, swappedRecords};
 ghost use Rattle.picture_order.specs.Private.Steps.{Positioned, Started, Stepped, listOf};
 use crate::task::Run;
 use read_record::Answer;
@@ -29,7 +29,7 @@ pub struct Comp {
 // Exchanges the records i and j.
 fn swap_comps(cs: &mut [Comp], i: usize, j: usize)
     requires { ⌜ (i < length (now cs)) × (j < length (now cs)) ⌝ }
-    ensures { λ _. ⌜ now (cs .exit) ≡ swapped (now (cs .entry)) i j ⌝ }
+    ensures { λ _. ⌜ now (cs .exit) ≡ swappedRecords (now (cs .entry)) i j ⌝ }
 {
     let a = cs[i];
     cs[i] = cs[j];
@@ -52,7 +52,7 @@ fn mark_one(c: Comp, t: u16, on: bool) -> Comp
 // Puts a mark on record i, or leaves it as it is.
 fn mark_if(cs: &mut [Comp], i: usize, t: u16, on: bool)
     requires { ⌜ i < length (now cs) ⌝ }
-    ensures { λ _. ⌜ now (cs .exit) ≡ set (now (cs .entry)) i (markOf (getD (now (cs .entry)) i none) t on) ⌝ }
+    ensures { λ _. ⌜ now (cs .exit) ≡ set (now (cs .entry)) i (markOf (getD (now (cs .entry)) i noRecord) t on) ⌝ }
 {
     let c = mark_one(cs[i], t, on);
     cs[i] = c;

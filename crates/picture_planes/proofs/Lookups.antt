@@ -8,7 +8,7 @@ use lib.IntN.{ℤ, pos}
 use lib.ListN.{length, take, drop, getD, set, length-drop, length-map, List·getD-map}
 use lib.Seq.{getD-drop}
 use Rattle.box_number.specs.Number.{placed}
-use Rattle.picture_planes.specs.Plane.{plane}
+use Rattle.picture_planes.specs.Plane.{samplesOf}
 use Rattle.picture_planes.specs.Private.Entry.{entryFor}
 use Rattle.box_number.proofs.Placing.{Placing, placing-more, placing-from, placing-all}
 
@@ -37,8 +37,8 @@ module _ (entries : List ℤ) (last : ℕ) (src : List ℤ) (from : ℕ) (d : Li
       look-next (j + 1 + 1 + 1) p₃ (omega arith) (omega arith) (omega arith) (omega arith) q₄
 
   -- the first j, and all
-  pub look-from : {e : List ℤ} (j : ℕ) → from + j ≤ length src → at + j ≤ length d → e ≡ placed d at (map (entryFor entries last) (plane src from j)) → Placing d at looked e j
+  pub look-from : {e : List ℤ} (j : ℕ) → from + j ≤ length src → at + j ≤ length d → e ≡ placed d at (map (entryFor entries last) (samplesOf src from j)) → Placing d at looked e j
   look-from j s t q = placing-from d at looked j (simp (length-map, length-drop) (omega arith)) t (q ∙ ap (placed d at) (sym (take-map (entryFor entries last) j (drop from src))))
 
-  pub look-all : {e : List ℤ} (j n : ℕ) → Placing d at looked e j → j ≡ n → from + n ≤ length src → e ≡ placed d at (map (entryFor entries last) (plane src from n))
+  pub look-all : {e : List ℤ} (j n : ℕ) → Placing d at looked e j → j ≡ n → from + n ≤ length src → e ≡ placed d at (map (entryFor entries last) (samplesOf src from n))
   look-all {e} j n p z s = placing-all d at looked e j n p z (simp (length-map, length-drop) (omega arith)) ∙ ap (placed d at) (take-map (entryFor entries last) n (drop from src))

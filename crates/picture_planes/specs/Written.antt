@@ -7,8 +7,8 @@ use Rattle.box_number.specs.Number.{placed}
 use Rattle.box_number.specs.Table.{Test, otherwise, _⇒_∣_, table}
 
 -- where a test refuses them: whether they are written, and the destination d afterwards
-unfoldable pub done : Test → Bool
-done refused = table (refused ⇒ false ∣ otherwise true)
+unfoldable pub isWritten : Test → Bool
+isWritten refused = table (refused ⇒ false ∣ otherwise true)
 
-unfoldable pub written : Test → List ℤ → ℕ → List ℤ → List ℤ
-written refused d at xs = table (refused ⇒ d ∣ otherwise (placed d at xs))
+unfoldable pub writtenUnless : Test → List ℤ → ℕ → List ℤ → List ℤ
+writtenUnless refused d at xs = table (refused ⇒ d ∣ otherwise (placed d at xs))

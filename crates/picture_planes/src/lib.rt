@@ -8,9 +8,9 @@ ghost use Rattle.box_number.specs.Table.{_or_, holds};
 ghost use Rattle.box_number.specs.Number.{placed};
 ghost use Rattle.picture_rules.specs.Samples.{floored, clamped, displayed};
 ghost use Rattle.picture_rules.specs.Finish.{mostEntries};
-ghost use Rattle.picture_planes.specs.Written.{done, written};
+ghost use Rattle.picture_planes.specs.Written.{isWritten, writtenUnless};
 ghost use Rattle.picture_planes.specs.Column.{mostBytes, noColumn, column, picked};
-ghost use Rattle.picture_planes.specs.Plane.{plane, outside};
+ghost use Rattle.picture_planes.specs.Plane.{samplesOf, samplesOutside};
 ghost use Rattle.picture_planes.specs.Private.Entry.{entryFor};
 
 // The most entries of a column.
@@ -92,7 +92,7 @@ fn read_column(s: &[u8], k: Column, out: &mut [i32])
 // Copies n samples that lie in both lists.
 fn copy_inside(src: &[i32], from: usize, n: usize, dst: &mut [i32], at: usize)
     requires { ⌜ (from + n ≤ length (now src)) × (at + n ≤ length (now dst)) ⌝ }
-    ensures { λ _. ⌜ now (dst .exit) ≡ placed (now (dst .entry)) at (plane (now (src .entry)) from n) ⌝ }
+    ensures { λ _. ⌜ now (dst .exit) ≡ placed (now (dst .entry)) at (samplesOf (now (src .entry)) from n) ⌝ }
 {
     let mut k = 0;
     while k < n {
@@ -103,8 +103,8 @@ fn copy_inside(src: &[i32], from: usize, n: usize, dst: &mut [i32], at: usize)
 
 // Copies the n samples of src from a place on to a place of dst; false, with nothing changed, where they do not lie in both.
 pub fn copy_plane(src: &[i32], from: usize, n: usize, dst: &mut [i32], at: usize) -> bool
-    ensures { λ r. ⌜ r ≡ done (outside (now (src .entry)) from n (now (dst .entry)) at) ⌝ }
-    ensures { λ _. ⌜ now (dst .exit) ≡ written (outside (now (src .entry)) from n (now (dst .entry)) at) (now (dst .entry)) at (plane (now (src .entry)) from n) ⌝ }
+    ensures { λ r. ⌜ r ≡ isWritten (samplesOutside (now (src .entry)) from n (now (dst .entry)) at) ⌝ }
+    ensures { λ _. ⌜ now (dst .exit) ≡ writtenUnless (samplesOutside (now (src .entry)) from n (now (dst .entry)) at) (now (dst .entry)) at (samplesOf (now (src .entry)) from n) ⌝ }
 {
     if box_number::lies_outside(src.len(), from, n) {
         return false;
@@ -143,7 +143,7 @@ fn lookup_fours(
     at: usize,
 ) -> usize
     requires { ⌜ (last < mostEntries) × (from + n ≤ length (now src)) × (at + n ≤ length (now dst)) ⌝ }
-    ensures { λ r. ⌜ (r ≤ n) × (now (dst .exit) ≡ placed (now (dst .entry)) at (map (entryFor (now (entries .entry)) last) (plane (now (src .entry)) from r))) ⌝ }
+    ensures { λ r. ⌜ (r ≤ n) × (now (dst .exit) ≡ placed (now (dst .entry)) at (map (entryFor (now (entries .entry)) last) (samplesOf (now (src .entry)) from r))) ⌝ }
 {
     let mut k = 0;
     while 4 <= n - k {
@@ -166,7 +166,7 @@ fn lookup_inside(
     at: usize,
 )
     requires { ⌜ (last < mostEntries) × (from + n ≤ length (now src)) × (at + n ≤ length (now dst)) ⌝ }
-    ensures { λ _. ⌜ now (dst .exit) ≡ placed (now (dst .entry)) at (map (entryFor (now (entries .entry)) last) (plane (now (src .entry)) from n)) ⌝ }
+    ensures { λ _. ⌜ now (dst .exit) ≡ placed (now (dst .entry)) at (map (entryFor (now (entries .entry)) last) (samplesOf (now (src .entry)) from n)) ⌝ }
 {
     let mut k = lookup_fours(entries, last, src, from, n, dst, at);
     while k < n {
@@ -185,8 +185,8 @@ pub fn lookup_plane(
     dst: &mut [i32],
     at: usize,
 ) -> bool
-    ensures { λ r. ⌜ r ≡ done (noColumn k or outside (now (src .entry)) from n (now (dst .entry)) at) ⌝ }
-    ensures { λ _. ⌜ now (dst .exit) ≡ written (noColumn k or outside (now (src .entry)) from n (now (dst .entry)) at) (now (dst .entry)) at (map (picked (now (s .entry)) k) (plane (now (src .entry)) from n)) ⌝ }
+    ensures { λ r. ⌜ r ≡ isWritten (noColumn k or samplesOutside (now (src .entry)) from n (now (dst .entry)) at) ⌝ }
+    ensures { λ _. ⌜ now (dst .exit) ≡ writtenUnless (noColumn k or samplesOutside (now (src .entry)) from n (now (dst .entry)) at) (now (dst .entry)) at (map (picked (now (s .entry)) k) (samplesOf (now (src .entry)) from n)) ⌝ }
 {
     if no_column(k) {
         return false;

@@ -7,7 +7,7 @@ use native.Mathlib.Omega.{arith}
 use Rattle.box_number.specs.Table.{_=?_, _and_, otherwise, _⇒_∣_, table}
 use Rattle.box_number.proofs.Rows.{each}
 use Rattle.read_channels.specs.Definitions.{Def}
-use Rattle.picture_rules.specs.Order.{Arranged, exchange, swapped, marked, define, run, arranged}
+use Rattle.picture_rules.specs.Order.{Arranged, exchange, swapped, marked, define, runDefinitions, arranged}
 use Rattle.picture_rules.proofs.Exchange
 use Rattle.picture_rules.proofs.Steps.{rows, by-row}
 
@@ -44,8 +44,8 @@ module _ (n : ℕ) where
         ),
       )
 
-  run-alike : (ds : List Def) (a b : Arranged) → Alike n a b → Alike n (run n ds a) (run n ds b)
-  unfolding run
+  run-alike : (ds : List Def) (a b : Arranged) → Alike n a b → Alike n (runDefinitions n ds a) (runDefinitions n ds b)
+  unfolding runDefinitions
   run-alike [] a b e = e
   run-alike (d ∷ ds) a b e = run-alike ds (define n d a) (define n d b) (define-alike d a b e)
 

@@ -36,7 +36,7 @@ use Rattle.picture_rules.specs.Channels.{channels, componentOf, typeOf}
 use Rattle.picture_rules.specs.Samples.{displayed, lookup, valueFor, valueOf, channelSamples, packed, startOf}
 use Rattle.picture_rules.specs.Finish.{counted, expanded, picture, fitted, colourChecks, checks, finish}
 use Rattle.picture_rules.specs.Words.{Handed, Accepted}
-use Rattle.picture_rules.specs.Met.{otherwise-turned, directFile, direct, directPlanes, palettedFile, paletted, palettedPlanes, Met, DirectMet, PaletteMet}
+use Rattle.picture_rules.specs.Met.{otherwise-turned, directFile, directExample, directPlanes, palettedFile, paletted, palettedPlanes, Met, DirectMet, PaletteMet}
 use Rattle.picture_rules.proofs.Distinct.{once-pairwise, swapped, alike-parts}
 
 -- three definitions at a place, and the first two exchanged
@@ -70,14 +70,14 @@ keptOf (refused number place) = blank
 
 -- what reading and finishing compute with
 computing : ℕ
-unfolding table number part kindOf headerLength boxLength withBit signature fileType ihdr bpcc lab colr entryBytes rowBytes pclr cmap cdef split readAll lacksIhdr jp2h outer run walk definitionsTo exchange define order.run size lowest channels componentOf typeOf displayed lookup valueFor valueOf channelSamples packed startOf Cji counted expanded flat picture fitted colourChecks checks finish
+unfolding table number part kindOf headerLength boxLength withBit signature fileType ihdr bpcc lab colr entryBytes rowBytes pclr cmap cdef split readAll lacksIhdr jp2h outer run walk definitionsTo exchange define order.runDefinitions size lowest channels componentOf typeOf displayed lookup valueFor valueOf channelSamples packed startOf Cji counted expanded flat picture fitted colourChecks checks finish
 computing = 0
 
 pub direct-met : DirectMet
 unfolding computing
 direct-met =
-    met direct directPlanes (directFile otherwise-turned) (keptOf (given (read (direct .file)))) 72 (record { reading = refl; finishing = refl }) refl refl refl refl
-    (alike-parts (direct .file) (directFile otherwise-turned) 72 18 refl refl refl) (λ e. omega (arith, ap (λ x. getD x 73 0) e))
+    met directExample directPlanes (directFile otherwise-turned) (keptOf (given (read (directExample .file)))) 72 (record { reading = refl; finishing = refl }) refl refl refl refl
+    (alike-parts (directExample .file) (directFile otherwise-turned) 72 18 refl refl refl) (λ e. omega (arith, ap (λ x. getD x 73 0) e))
 
 pub palette-met : PaletteMet
 unfolding computing

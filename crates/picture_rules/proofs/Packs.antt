@@ -10,14 +10,14 @@ use lib.ListN.{length, getD, take, drop, length-append, length-take, length-drop
 use lib.Seq.{getD-take, getD-drop, getD-append-add}
 use Rattle.box_number.proofs.Rows.{row, each}
 use Rattle.read_record.specs.declared.Jp2.{Jp2}
-use Rattle.picture_rules.specs.Image.{Image, width, height, first, none, size}
+use Rattle.picture_rules.specs.Image.{Image, width, height, first, noData, size}
 use Rattle.picture_rules.specs.Channels.{componentOf}
 use Rattle.picture_rules.specs.Samples.{valueOf, channelSamples, packed, startOf}
 use Rattle.box_number.proofs.Indices.{last-or}
 
 -- component r has no samples, or they lie in the list
 abbrev pub Within : Image → ℕ → Type 0
-Within i r = (first i r ≡ none → ⊥) → first i r + height i r * width i r ≤ length (i .samples)
+Within i r = (first i r ≡ noData → ⊥) → first i r + height i r * width i r ≤ length (i .samples)
 
 getD-map : {A B : Type 0} (v : A → B) (l : List A) (k : ℕ) (d : A) (e : B) → k < length l → getD (map v l) k e ≡ v (getD l k d)
 getD-map v [] k d e h = absurd (omega arith)
@@ -29,7 +29,7 @@ module _ (i : Image) (r : ℕ) where
   plane : List ℤ
   plane = take (size i r) (drop (first i r) (i .samples))
 
-  pub size-some : (first i r ≡ none → ⊥) → height i r * width i r ≡ size i r
+  pub size-some : (first i r ≡ noData → ⊥) → height i r * width i r ≡ size i r
   unfolding size
   size-some h = row 1 _ (h, tt) refl
 
@@ -83,7 +83,7 @@ module _ (f : List ℕ) (m : Jp2) (i : Image) where
 
   -- a sample of channel c is what the channel makes of its component's, whatever stands behind the channels
   pub packed-at :
-      (n : ℕ) → Held n → (behind : List ℤ) (c k : ℕ) (d : ℤ) → c < n → (first i (componentOf f m c) ≡ none → ⊥) → k < height i (componentOf f m c) * width i (componentOf f m c) →
+      (n : ℕ) → Held n → (behind : List ℤ) (c k : ℕ) (d : ℤ) → c < n → (first i (componentOf f m c) ≡ noData → ⊥) → k < height i (componentOf f m c) * width i (componentOf f m c) →
       getD (packed f m i n ++ behind) (startOf f m i c + k) d ≡ valueOf f m (i .count) c (getD (i .samples) (first i (componentOf f m c) + k) d)
   packed-at n held behind c k d h some l =
       let b : k < size i (componentOf f m c) = omega (arith, size-some i (componentOf f m c) some) in

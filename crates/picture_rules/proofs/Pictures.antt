@@ -13,10 +13,10 @@ use Rattle.box_number.proofs.Rows.{Says, row}
 use Rattle.read_record.specs.declared.Jp2.{Jp2}
 use Rattle.read_channels.specs.Definitions.{Def, definition, definitionsTo, definitions}
 use Rattle.picture_rules.specs.Definitions.{Colour}
-use Rattle.picture_rules.specs.Order.{run, arranged}
+use Rattle.picture_rules.specs.Order.{runDefinitions, arranged}
 use Rattle.picture_rules.specs.Flat.{flat}
 use Rattle.picture_rules.specs.Rules.{Paired, OrderPairs, ColourLands}
-use Rattle.picture_rules.specs.Image.{Image, image, component, width, height, first, none, indexOf, sampleAt}
+use Rattle.picture_rules.specs.Image.{Image, image, component, width, height, first, noData, indexOf, sampleAt}
 use Rattle.picture_rules.specs.Channels.{channels, componentOf}
 use Rattle.picture_rules.specs.Samples.{valueOf, packed, startOf}
 use Rattle.picture_rules.specs.Finish.{outsideLists, expanded, picture}
@@ -40,11 +40,11 @@ module _ (f : List ℕ) (m : Jp2) (i : Image) (c : ℕ) where
   unfolding expanded
   expanded-height = sym (row 3 _ (omega arith) refl)
 
-  expanded-none : first i (componentOf f m c) ≡ none → expanded f m i c 11 ≡ none
+  expanded-none : first i (componentOf f m c) ≡ noData → expanded f m i c 11 ≡ noData
   unfolding expanded
   expanded-none e = sym (row 3 _ ((λ _. omega arith), ((λ _. omega arith), ((λ h. absurd (h e)), tt))) (sym e))
 
-  expanded-start : (first i (componentOf f m c) ≡ none → ⊥) → expanded f m i c 11 ≡ startOf f m i c
+  expanded-start : (first i (componentOf f m c) ≡ noData → ⊥) → expanded f m i c 11 ≡ startOf f m i c
   unfolding expanded
   expanded-start h = sym (row 2 _ ((λ _. omega arith), ((λ _. omega arith), (h, refl))) refl)
 
@@ -96,10 +96,10 @@ module _ (h : Handed) (m : Jp2) (numbers : List ℕ) (samples : List ℤ) (pairs
       high : height planes (to c) ≡ height i r
       high = plane-number c 3 l (omega arith) ∙ expanded-height f m i c
 
-      start : (first i r ≡ none → ⊥) → first planes (to c) ≡ startOf f m i c
+      start : (first i r ≡ noData → ⊥) → first planes (to c) ≡ startOf f m i c
       start some = plane-number c 11 l (omega arith) ∙ expanded-start f m i c some
 
-      sample : (first i r ≡ none → ⊥) → (y x : ℕ) → y < height i r → x < width i r → sampleAt planes (to c) y x ≡ valueOf f m (i .count) c (sampleAt i r y x)
+      sample : (first i r ≡ noData → ⊥) → (y x : ℕ) → y < height i r → x < width i r → sampleAt planes (to c) y x ≡ valueOf f m (i .count) c (sampleAt i r y x)
       unfolding picture
       sample some y x a b =
           ap₂ (λ s w. getD (packed f m i n ++ samples) (indexOf s w y x) (pos 0)) (start some) wide ∙ at-index (packed f m i n ++ samples) (startOf f m i c) (width i r) y x
@@ -112,13 +112,13 @@ module _ (h : Handed) (m : Jp2) (numbers : List ℕ) (samples : List ℤ) (pairs
             wide = wide;
             high = high;
             empty = λ e. plane-number c 11 l (omega arith) ∙ expanded-none f m i c e;
-            empty-only = λ e. decide (first i r =? none) (λ z. z) (λ some. omega (arith, start some, checked .most, start-more f m i c n (omega arith)));
+            empty-only = λ e. decide (first i r =? noData) (λ z. z) (λ some. omega (arith, start some, checked .most, start-more f m i c n (omega arith)));
             sample = λ some y x a b. sample some y x (omega (arith, high)) (omega (arith, wide));
           }
 
     -- no definition moves a channel
     in-order : m .lists .cdef .count ≡ 0 → (c : ℕ) → c < n → to c ≡ c
-    unfolding definitionsTo run
+    unfolding definitionsTo runDefinitions
     in-order e c l = sym (paired .seats c l) ∙ ap (λ count. arranged n (definitionsTo f (m .lists .cdef) count) (expanded f m i) .seat c) e
 
     colours :

@@ -9,7 +9,7 @@ use lib.Dec.{ltb}
 use borrow.Author.Tests.{lt-ltb, ltb-true}
 use Rattle.read_channels.specs.Definitions.{Def}
 use Rattle.picture_rules.specs.Definitions.{Colour, times, Reordered}
-use Rattle.picture_rules.specs.Order.{Arranged, define, run, arranged}
+use Rattle.picture_rules.specs.Order.{Arranged, define, runDefinitions, arranged}
 use Rattle.picture_rules.specs.Rules.{Once}
 use Rattle.picture_rules.proofs.Exchange
 use Rattle.picture_rules.proofs.Steps.{Apart, step, steps, moving, undone, within, commute, follows}
@@ -35,8 +35,8 @@ defined n d records a m =
       stands = λ p k l. f .stands p k l ∙ m .stands (s p) k l;
     }
 
-ran : (n : ℕ) (ds : List Def) (records : ℕ → ℕ → ℕ) (a : Arranged) → Matched n records a → Matched n records (run n ds a)
-unfolding run
+ran : (n : ℕ) (ds : List Def) (records : ℕ → ℕ → ℕ) (a : Arranged) → Matched n records a → Matched n records (runDefinitions n ds a)
+unfolding runDefinitions
 ran n [] records a m = m
 ran n (d ∷ ds) records a m = ran n ds records (define n d a) (defined n d records a m)
 
@@ -51,8 +51,8 @@ only : (n : ℕ) (records : ℕ → ℕ → ℕ) (a : Arranged) → Matched n re
 only n records a m c e h = sym (m .there c) ∙ ap (m .from) h ∙ m .there e
 
 -- a channel that stands where its colour number says stays there
-stays : (n : ℕ) (d : Def) (ds : List Def) (records : ℕ → ℕ → ℕ) (a : Arranged) → Matched n records a → ((e : Def) → 0 < times e ds → Apart d e) → Colour d → a .seat (d .channel) ≡ d .asoc - 1 → run n ds a .seat (d .channel) ≡ d .asoc - 1
-unfolding run
+stays : (n : ℕ) (d : Def) (ds : List Def) (records : ℕ → ℕ → ℕ) (a : Arranged) → Matched n records a → ((e : Def) → 0 < times e ds → Apart d e) → Colour d → a .seat (d .channel) ≡ d .asoc - 1 → runDefinitions n ds a .seat (d .channel) ≡ d .asoc - 1
+unfolding runDefinitions
 stays n d [] records a m w k e = e
 stays n d (f ∷ ds) records a m w k e =
     stays n d ds records (define n f a) (defined n f records a m) (λ g o. w g (later g f ds o)) k (follows n f a .seats (d .channel) ∙ unmoved ∙ e)
@@ -63,8 +63,8 @@ stays n d (f ∷ ds) records a m w k e =
         (λ h. Exchange.other _ _ _ (λ u. w f (first f ds) .0 (only n records a m _ _ u)) (λ u. w f (first f ds) .1 k (h .1 .0, omega arith, omega arith) (omega arith)))
         refl
 
-pub lands : (n : ℕ) (d : Def) (ds : List Def) (records : ℕ → ℕ → ℕ) (a : Arranged) → Matched n records a → Once ds → 0 < times d ds → Colour d → d .channel < n → d .asoc ≤ n → run n ds a .seat (d .channel) ≡ d .asoc - 1
-unfolding run times
+pub lands : (n : ℕ) (d : Def) (ds : List Def) (records : ℕ → ℕ → ℕ) (a : Arranged) → Matched n records a → Once ds → 0 < times d ds → Colour d → d .channel < n → d .asoc ≤ n → runDefinitions n ds a .seat (d .channel) ≡ d .asoc - 1
+unfolding runDefinitions times
 lands n d [] records a m o t k h l = absurd (omega arith)
 lands n d (f ∷ ds) records a m o t k h l =
     ⊎-elim
@@ -80,8 +80,8 @@ lands n d (f ∷ ds) records a m o t k h l =
         follows n d a .seats (d .channel) ∙ moving n d _ _ (below, (k .0, (omega arith, (omega arith, omega arith)))) ∙ Exchange.first _ _ _ refl
 
 -- where the channels end depends on where they stand only
-alike : (n : ℕ) (ds : List Def) (a b : Arranged) → ((c : ℕ) → a .seat c ≡ b .seat c) → (c : ℕ) → run n ds a .seat c ≡ run n ds b .seat c
-unfolding run
+alike : (n : ℕ) (ds : List Def) (a b : Arranged) → ((c : ℕ) → a .seat c ≡ b .seat c) → (c : ℕ) → runDefinitions n ds a .seat c ≡ runDefinitions n ds b .seat c
+unfolding runDefinitions
 alike n [] a b e c = e c
 alike n (d ∷ ds) a b e c =
     alike n ds (define n d a) (define n d b)
@@ -91,8 +91,8 @@ twice : (n : ℕ) (d e : Def) (a : Arranged) (c : ℕ) → define n d (define n 
 twice n d e a c = follows n d (define n e a) .seats c ∙ rw (follows n e a .seats (d .channel), follows n e a .seats c)
 
 -- a definition that is apart from all before it may as well come first
-fronted : (n : ℕ) (d : Def) (xs ys : List Def) (records : ℕ → ℕ → ℕ) (a : Arranged) (c : ℕ) → n < 65536 → Matched n records a → ((e : Def) → 0 < times e xs → Apart d e) → run n (xs ++ d ∷ ys) a .seat c ≡ run n (d ∷ xs ++ ys) a .seat c
-unfolding run
+fronted : (n : ℕ) (d : Def) (xs ys : List Def) (records : ℕ → ℕ → ℕ) (a : Arranged) (c : ℕ) → n < 65536 → Matched n records a → ((e : Def) → 0 < times e xs → Apart d e) → runDefinitions n (xs ++ d ∷ ys) a .seat c ≡ runDefinitions n (d ∷ xs ++ ys) a .seat c
+unfolding runDefinitions
 fronted n d [] ys records a c few m w = refl
 fronted n d (e ∷ xs) ys records a c few m w =
     fronted n d xs ys records (define n e a) c few (defined n e records a m) (λ g o. w g (later g e xs o)) ∙ alike n (xs ++ ys) _ _ swap c
@@ -103,10 +103,10 @@ fronted n d (e ∷ xs) ys records a c few m w =
         ∙ sym (twice n e d a x)
 
 -- and so the order of the definitions does not matter
-pub same-seats : (n : ℕ) (ds es : List Def) (records : ℕ → ℕ → ℕ) (a : Arranged) (c : ℕ) → n < 65536 → Matched n records a → Once ds → Reordered ds es → run n ds a .seat c ≡ run n es a .seat c
-unfolding run
+pub same-seats : (n : ℕ) (ds es : List Def) (records : ℕ → ℕ → ℕ) (a : Arranged) (c : ℕ) → n < 65536 → Matched n records a → Once ds → Reordered ds es → runDefinitions n ds a .seat c ≡ runDefinitions n es a .seat c
+unfolding runDefinitions
 same-seats n [] es records a c few m o r = rw (no-more es r)
 same-seats n (d ∷ ds) es records a c few m o r =
     let t = taken d ds es r in
     same-seats n ds (t .at .before ++ t .at .behind) records (define n d a) c few (defined n d records a m) (once-rest d ds o) (t .rest)
-    ∙ sym (ap (λ l. run n l a .seat c) (t .at .whole) ∙ fronted n d (t .at .before) (t .at .behind) records a c few m (λ e i. apart d ds o e (t .within e i)))
+    ∙ sym (ap (λ l. runDefinitions n l a .seat c) (t .at .whole) ∙ fronted n d (t .at .before) (t .at .behind) records a c few m (λ e i. apart d ds o e (t .within e i)))

@@ -34,32 +34,32 @@ use Rattle.picture_rules.specs.Samples.{displayed, lookup, valueFor, val
 use Rattle.picture_rules.specs.Finish.{Finishing, finished, declined, counted, expanded, picture, fitted, colourChecks, checks, finish}
 
 -- LBox, TBox and the content
-abbrev pub box : ℕ → List ℕ → List ℕ
-box type content = bytes 4 (8 + length content) ++ bytes 4 type ++ content
+abbrev pub boxByNumber : ℕ → List ℕ → List ℕ
+boxByNumber type content = bytes 4 (8 + length content) ++ bytes 4 type ++ content
 
 -- columns of 8 bits, and the rows one after the other
 abbrev pub paletteBox : ℕ → ℕ → List ℕ → List ℕ
-paletteBox entries columns rows = box 0x70636c72 (bytes 2 entries ++ bytes 1 columns ++ replicate columns 7 ++ rows)
+paletteBox entries columns rows = boxByNumber 0x70636c72 (bytes 2 entries ++ bytes 1 columns ++ replicate columns 7 ++ rows)
 
 -- component, type, column
 abbrev pub mapping : ℕ → ℕ → ℕ → List ℕ
 mapping c type column = bytes 2 c ++ bytes 1 type ++ bytes 1 column
 
 abbrev pub mappingBox : List ℕ → List ℕ
-mappingBox mappings = box 0x636d6170 mappings
+mappingBox mappings = boxByNumber 0x636d6170 mappings
 
-abbrev pub fields : List Def → List ℕ
-fields [] = []
-fields (d ∷ ds) = bytes 2 (d .channel) ++ bytes 2 (d .typ) ++ bytes 2 (d .asoc) ++ fields ds
+abbrev pub definitionFields : List Def → List ℕ
+definitionFields [] = []
+definitionFields (d ∷ ds) = bytes 2 (d .channel) ++ bytes 2 (d .typ) ++ bytes 2 (d .asoc) ++ definitionFields ds
 
 abbrev pub definitionBox : List Def → List ℕ
-definitionBox ds = box 0x63646566 (bytes 2 (length ds) ++ fields ds)
+definitionBox ds = boxByNumber 0x63646566 (bytes 2 (length ds) ++ definitionFields ds)
 
 -- signature, file type, and a jp2h of an ihdr for n components of 8 bits and the given boxes
 abbrev pub fileOf : ℕ → List ℕ → List ℕ
 fileOf n boxes =
-    box 0x6a502020 (bytes 4 0x0d0a870a) ++ box 0x66747970 (bytes 4 0x6a703220 ++ bytes 4 0 ++ bytes 4 0x6a703220)
-    ++ box 0x6a703268 (box 0x69686472 (bytes 4 1 ++ bytes 4 1 ++ bytes 2 n ++ 7 ∷ 7 ∷ 0 ∷ 0 ∷ []) ++ boxes)
+    boxByNumber 0x6a502020 (bytes 4 0x0d0a870a) ++ boxByNumber 0x66747970 (bytes 4 0x6a703220 ++ bytes 4 0 ++ bytes 4 0x6a703220)
+    ++ boxByNumber 0x6a703268 (boxByNumber 0x69686472 (bytes 4 1 ++ bytes 4 1 ++ bytes 2 n ++ 7 ∷ 7 ∷ 0 ∷ 0 ∷ []) ++ boxes)
 
 -- components of 1 by 1 and 8 bits without a mark, whose samples start at an index
 abbrev pub onePoint : ℕ → List ℤ → List ℕ
@@ -122,23 +122,23 @@ abbrev pub planesTo : Image → ℕ → List Plane
 planesTo i zero = []
 planesTo i (suc n) = planesTo i n ++ (sampleAt i n 0 0 mark component i n alpha ∷ [])
 
-abbrev pub shown : Finishing → Shown
-shown (finished i) = planes (planesTo i (i .count))
-shown (declined number index) = refusedWith number index
+abbrev pub shownPlanes : Finishing → Shown
+shownPlanes (finished i) = planes (planesTo i (i .count))
+shownPlanes (declined number index) = refusedWith number index
 
 -- finished with the record from reading, in destinations for four planes
 abbrev pub finishedWith : List ℕ → Image → Result → Shown
-finishedWith f i (accepted m) = shown (finish (record { file = f; image = i; settings = settings 0; records = 52; samples = 4 }) m)
+finishedWith f i (accepted m) = shownPlanes (finish (record { file = f; image = i; settings = settings 0; records = 52; samples = 4 }) m)
 finishedWith f i (refused number place) = refusedWith number place
 
-abbrev pub come : Cases → List Shown
-come end = []
-come (ss with boxes gives o ∣ rest) = let f = fileOf (length ss) boxes in finishedWith f (imageOf ss) (given (read f)) ∷ come rest
+abbrev pub results : Cases → List Shown
+results end = []
+results (ss with boxes gives o ∣ rest) = let f = fileOf (length ss) boxes in finishedWith f (imageOf ss) (given (read f)) ∷ results rest
 
-abbrev pub told : Cases → List Shown
-told end = []
-told (ss with boxes gives o ∣ rest) = o ∷ told rest
+abbrev pub expected : Cases → List Shown
+expected end = []
+expected (ss with boxes gives o ∣ rest) = o ∷ expected rest
 
-pub marked : come cases ≡ told cases
-unfolding table number part bytes kindOf headerLength boxLength withBit signature fileType ihdr entryBytes rowBytes Cji pclr cmap cdef split readAll lacksIhdr jp2h outer file.run walk definitionsTo exchange define order.run size lowest channels componentOf typeOf displayed lookup valueFor valueOf channelSamples packed startOf counted expanded flat picture fitted colourChecks checks finish
-marked = refl
+pub marked-cases : results cases ≡ expected cases
+unfolding table number part bytes kindOf headerLength boxLength withBit signature fileType ihdr entryBytes rowBytes Cji pclr cmap cdef split readAll lacksIhdr jp2h outer file.run walk definitionsTo exchange define order.runDefinitions size lowest channels componentOf typeOf displayed lookup valueFor valueOf channelSamples packed startOf counted expanded flat picture fitted colourChecks checks finish
+marked-cases = refl

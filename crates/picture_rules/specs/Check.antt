@@ -6,7 +6,7 @@ use Rattle.read_record.specs.declared.Span.{Span}
 use Rattle.read_channels.specs.Cmap.{CMP, MTYP, PCOL}
 use Rattle.read_channels.specs.Cdef.{Cn, Asoc}
 use Rattle.picture_rules.specs.Definitions.{wholeImage, unassociated}
-use Rattle.picture_rules.specs.Image.{Image, first, none}
+use Rattle.picture_rules.specs.Image.{Image, first, noData}
 use Rattle.box_number.specs.Lowest.{lowest}
 
 -- 25: definition j of a list names a channel, or a colour, that is not below n channels
@@ -23,4 +23,4 @@ mismapped f l n c = n <? CMP f l c + 1 or (MTYP f l c ≠? 0 or PCOL f l c ≠? 
 
 -- 28: the component of mapping c has no samples
 abbrev pub dataless : List ℕ → Span → Image → ℕ → Test
-dataless f l i c = first i (CMP f l c) =? none
+dataless f l i c = first i (CMP f l c) =? noData

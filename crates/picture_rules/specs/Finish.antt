@@ -11,10 +11,11 @@ use Rattle.read_record.specs.declared.Jp2.{Jp2}
 use Rattle.read_record.specs.Record.{span, palette, withPclr, withCmap, withCdef}
 use Rattle.read_record.specs.Component.{prec, sgnd, «data», numbersEach}
 use Rattle.read_palette.specs.Pclr.{depth, sign, B, rowSize}
+pub use Rattle.read_palette.specs.Pclr.{mostEntries}
 use Rattle.read_channels.specs.Definitions.{definitions, definitionsOutside}
 use Rattle.picture_rules.specs.Order.{arranged}
 use Rattle.picture_rules.specs.Flat.{flat}
-use Rattle.picture_rules.specs.Image.{Image, component, width, height, first, none, mostComponents, mostSamples}
+use Rattle.picture_rules.specs.Image.{Image, component, width, height, first, noData, mostComponents, mostSamples}
 use Rattle.picture_rules.specs.Handed.{Settings, Handed}
 use Rattle.picture_rules.specs.Channels.{channels, componentOf}
 use Rattle.picture_rules.specs.Samples.{packed, startOf}
@@ -27,7 +28,7 @@ pub data Finishing : Type 0 where
 
 -- 29: the plane of component c has samples, and they do not lie in a list of the given length
 abbrev pub planeOutside : Image → ℕ → ℕ → Test
-planeOutside i len c = first i c ≠? none and liesOutside len (first i c) (height i c * width i c)
+planeOutside i len c = first i c ≠? noData and liesOutside len (first i c) (height i c * width i c)
 
 -- 29: too many components or samples, or a record or a plane outside its list
 abbrev pub outsideLists : Image → Test
@@ -35,10 +36,7 @@ outsideLists i =
     mostComponents <? i .count or length (i .components) <? numbersEach * i .count or mostSamples <? length (i .samples)
     or some (planeOutside i (length (i .samples))) (i .count)
 
--- the most entries and the most columns of a palette that the reader of pclr gives
-abbrev pub mostEntries : ℕ
-mostEntries = 1024
-
+-- the most columns of a palette that the reader of pclr gives
 abbrev pub mostColumns : ℕ
 mostColumns = 255
 
@@ -65,7 +63,7 @@ expandedFrom b mappings i r start k =
     table
     (mappings ≠? 0 and k =? prec ⇒ depth b
     ∣ mappings ≠? 0 and k =? sgnd ⇒ sign b
-    ∣ first i r ≠? none and k =? «data» ⇒ start
+    ∣ first i r ≠? noData and k =? «data» ⇒ start
     ∣ otherwise (component i r k))
 
 -- of channel c

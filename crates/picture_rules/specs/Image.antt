@@ -5,6 +5,7 @@ use lib.IntN.{ℤ, pos}
 use lib.ListN.{getD}
 use Rattle.box_number.specs.Table.{_=?_, otherwise, _⇒_∣_, table}
 use Rattle.read_record.specs.Component as comp
+pub use Rattle.read_record.specs.Component.{noData, mostComponents}
 
 pub record Image : Type 0 where
   pub components : List ℕ
@@ -28,17 +29,11 @@ width i c = component i c comp.w
 abbrev pub height : Image → ℕ → ℕ
 height i c = component i c comp.h
 
--- data: the first sample's index, or none
+-- data: the first sample's index, or noData
 abbrev pub first : Image → ℕ → ℕ
 first i c = component i c comp.«data»
 
-abbrev pub none : ℕ
-none = comp.noData
-
--- the most components and the most samples of a picture
-abbrev pub mostComponents : ℕ
-mostComponents = 16384
-
+-- the most samples of a picture
 abbrev pub mostSamples : ℕ
 mostSamples = 4294967294
 
@@ -52,4 +47,4 @@ sampleAt i c y x = getD (i .samples) (indexOf (first i c) (width i c) y x) (pos 
 
 -- how many samples component c has
 unfoldable pub size : Image → ℕ → ℕ
-size i c = table (first i c =? none ⇒ 0 ∣ otherwise (height i c * width i c))
+size i c = table (first i c =? noData ⇒ 0 ∣ otherwise (height i c * width i c))

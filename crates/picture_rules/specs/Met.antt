@@ -4,7 +4,7 @@ use mathlib.Core.Path.{_≡_}
 use mathlib.Core.List.{List, [], _∷_, _++_}
 use lib.IntN.{pos}
 use Rattle.read_record.specs.declared.Jp2.{Jp2}
-use Rattle.read_rules.specs.Files.{two, box, ihdrBox, picture as fileOf}
+use Rattle.read_rules.specs.Files.{two, boxByNumber, ihdrBox, picture as fileOf}
 use Rattle.picture_rules.specs.Image.{Image, image}
 use Rattle.picture_rules.specs.Handed.{Handed, settings}
 use Rattle.picture_rules.specs.Words.{Accepted, Defined, Clear}
@@ -25,41 +25,41 @@ abbrev pub otherwise-turned : List ℕ
 otherwise-turned = definitionBytes 1 0 2 ++ definitionBytes 0 0 3 ++ definitionBytes 2 0 1
 
 abbrev pub cdefBox : List ℕ → List ℕ
-cdefBox definitions = box 0x63646566 (two 3 ++ definitions)
+cdefBox definitions = boxByNumber 0x63646566 (two 3 ++ definitions)
 
 -- a component of a width, 1 high and of 8 bits, with its first sample at an index
-abbrev pub plane : ℕ → ℕ → List ℕ
-plane wide start = 1 ∷ 1 ∷ wide ∷ 1 ∷ 0 ∷ 0 ∷ 8 ∷ 8 ∷ 0 ∷ 0 ∷ 0 ∷ start ∷ 0 ∷ []
+abbrev pub planeRecord : ℕ → ℕ → List ℕ
+planeRecord wide start = 1 ∷ 1 ∷ wide ∷ 1 ∷ 0 ∷ 0 ∷ 8 ∷ 8 ∷ 0 ∷ 0 ∷ 0 ∷ start ∷ 0 ∷ []
 
 -- with the file and the image, and room for three planes and their samples
-abbrev pub handed : List ℕ → Image → ℕ → Handed
-handed file picture room = record { file = file; image = picture; settings = settings 0; records = 39; samples = room }
+abbrev pub exampleOf : List ℕ → Image → ℕ → Handed
+exampleOf file picture room = record { file = file; image = picture; settings = settings 0; records = 39; samples = room }
 
 -- three components of one sample each
 abbrev pub directFile : List ℕ → List ℕ
 directFile definitions = fileOf (ihdrBox 3 ++ cdefBox definitions)
 
-abbrev pub direct : Handed
-direct = handed (directFile turned) (image (plane 1 0 ++ plane 1 1 ++ plane 1 2) 3 (pos 10 ∷ pos 20 ∷ pos 30 ∷ [])) 3
+abbrev pub directExample : Handed
+directExample = exampleOf (directFile turned) (image (planeRecord 1 0 ++ planeRecord 1 1 ++ planeRecord 1 2) 3 (pos 10 ∷ pos 20 ∷ pos 30 ∷ [])) 3
 
 -- the third is the first plane
 abbrev pub directPlanes : Image
-directPlanes = image (plane 1 2 ++ plane 1 1 ++ plane 1 0) 3 (pos 10 ∷ pos 20 ∷ pos 30 ∷ [])
+directPlanes = image (planeRecord 1 2 ++ planeRecord 1 1 ++ planeRecord 1 0) 3 (pos 10 ∷ pos 20 ∷ pos 30 ∷ [])
 
 -- one component of two samples, which a palette of two rows and three columns maps to three channels
 abbrev pub palettedFile : List ℕ → List ℕ
 palettedFile definitions =
     fileOf (ihdrBox 1
-    ++ box 0x70636c72 (two 2 ++ 3 ∷ 7 ∷ 7 ∷ 7 ∷ 10 ∷ 20 ∷ 30 ∷ 40 ∷ 50 ∷ 60 ∷ [])
-    ++ box 0x636d6170 (mappingBytes 0 1 0 ++ mappingBytes 0 1 1 ++ mappingBytes 0 1 2)
+    ++ boxByNumber 0x70636c72 (two 2 ++ 3 ∷ 7 ∷ 7 ∷ 7 ∷ 10 ∷ 20 ∷ 30 ∷ 40 ∷ 50 ∷ 60 ∷ [])
+    ++ boxByNumber 0x636d6170 (mappingBytes 0 1 0 ++ mappingBytes 0 1 1 ++ mappingBytes 0 1 2)
     ++ cdefBox definitions)
 
 abbrev pub paletted : Handed
-paletted = handed (palettedFile turned) (image (plane 2 0) 1 (pos 1 ∷ pos 0 ∷ [])) 6
+paletted = exampleOf (palettedFile turned) (image (planeRecord 2 0) 1 (pos 1 ∷ pos 0 ∷ [])) 6
 
 -- each channel has its column's entries, and the third is the first plane
 abbrev pub palettedPlanes : Image
-palettedPlanes = image (plane 2 4 ++ plane 2 2 ++ plane 2 0) 3 (pos 40 ∷ pos 10 ∷ pos 50 ∷ pos 20 ∷ pos 60 ∷ pos 30 ∷ [])
+palettedPlanes = image (planeRecord 2 4 ++ planeRecord 2 2 ++ planeRecord 2 0) 3 (pos 40 ∷ pos 10 ∷ pos 50 ∷ pos 20 ∷ pos 60 ∷ pos 30 ∷ [])
 
 -- a picture is accepted with some record, with definitions that are present, applied and clash nowhere; and another file is alike in all but their order
 pub record Met (h : Handed) (planes : Image) (other : List ℕ) : Type 0 where
@@ -72,7 +72,7 @@ pub record Met (h : Handed) (planes : Image) (other : List ℕ) : Type 0 where
 
 -- both theorems of demand 3 speak of these
 abbrev pub DirectMet : Type 0
-DirectMet = Met direct directPlanes (directFile otherwise-turned)
+DirectMet = Met directExample directPlanes (directFile otherwise-turned)
 
 abbrev pub PaletteMet : Type 0
 PaletteMet = Met paletted palettedPlanes (palettedFile otherwise-turned)

@@ -35,10 +35,10 @@ define n d a =
     ∣ d .typ =? 0 ⇒ marked p 0 (swapped p (d .asoc - 1) a)
     ∣ otherwise (marked p (d .typ) a))
 
-unfoldable pub run : ℕ → List Def → Arranged → Arranged
-run n [] a = a
-run n (d ∷ ds) a = run n ds (define n d a)
+unfoldable pub runDefinitions : ℕ → List Def → Arranged → Arranged
+runDefinitions n [] a = a
+runDefinitions n (d ∷ ds) a = runDefinitions n ds (define n d a)
 
 -- from the start, where channel c is at position c
 abbrev pub arranged : ℕ → List Def → (ℕ → ℕ → ℕ) → Arranged
-arranged n ds records = run n ds (record { seat = λ c. c; records = records })
+arranged n ds records = runDefinitions n ds (record { seat = λ c. c; records = records })

@@ -5,7 +5,7 @@ use mathlib.Core.List.{List, [], _∷_, _++_}
 use Rattle.box_number.specs.Table.{_=?_, otherwise, _⇒_∣_, table}
 use Rattle.read_record.specs.Component.{alpha}
 use Rattle.read_channels.specs.Definitions.{Def, def}
-use Rattle.picture_rules.specs.Order.{exchange, define, run, arranged}
+use Rattle.picture_rules.specs.Order.{exchange, define, runDefinitions, arranged}
 
 -- a finished plane: its record and its mark
 infix 80 _mark_
@@ -49,14 +49,14 @@ unfoldable pub finished : ℕ → (ℕ → ℕ → ℕ) → List Plane
 finished zero records = []
 finished (suc p) records = finished p records ++ (records p 0 mark records p alpha ∷ [])
 
-abbrev pub given : Cases → List (List Plane)
-given end = []
-given (n planes ds give ps ∣ rest) = finished n (arranged n ds fresh .records) ∷ given rest
+abbrev pub results : Cases → List (List Plane)
+results end = []
+results (n planes ds give ps ∣ rest) = finished n (arranged n ds fresh .records) ∷ results rest
 
 abbrev pub expected : Cases → List (List Plane)
 expected end = []
 expected (n planes ds give ps ∣ rest) = ps ∷ expected rest
 
-pub order-cases : given cases ≡ expected cases
-unfolding table exchange define run fresh finished
+pub order-cases : results cases ≡ expected cases
+unfolding table exchange define runDefinitions fresh finished
 order-cases = refl

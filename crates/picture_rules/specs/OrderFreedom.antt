@@ -21,7 +21,7 @@ withFile g h = record { file = g; image = h .image; settings = h .settings; reco
 -- same definitions, each as often, in another order
 pub record AlikeButOrder (h : Handed) (g : List ℕ) (m : Jp2) : Type 0 where
   pub reads : given (read (h .file)) ≡ accepted m
-  pub alike : Alike (h .file) g (reading.definitions m)
+  pub alike : Alike (h .file) g (reading.definitionRange m)
   pub reordered : Reordered (definitions (h .file) (m .lists .cdef)) (definitions g (m .lists .cdef))
 
 -- equal finished records, marks aside, and equal finished samples

@@ -9,7 +9,7 @@ use Rattle.read_rules.specs.Alike.{given}
 use Rattle.read_channels.specs.Definitions.{definitions}
 use Rattle.picture_rules.specs.Rules.{Once}
 pub use Rattle.picture_rules.specs.Handed.{Handed}
-use Rattle.picture_rules.specs.Image.{Image, width, height, first, none, sampleAt}
+use Rattle.picture_rules.specs.Image.{Image, width, height, first, noData, sampleAt}
 use Rattle.picture_rules.specs.Channels.{componentOf}
 use Rattle.picture_rules.specs.Samples.{valueOf}
 use Rattle.picture_rules.specs.Finish.{finished, finish}
@@ -42,12 +42,12 @@ channelSample h m c y x = valueOf (h .file) m (h .image .count) c (sampleAt (h .
 
 -- channel c's component has no samples
 abbrev pub Empty : Handed → Jp2 → ℕ → Type 0
-Empty h m c = first (h .image) (source h m c) ≡ none
+Empty h m c = first (h .image) (source h m c) ≡ noData
 
 -- channel c fills plane p
 pub record Fills (h : Handed) (m : Jp2) (planes : Image) (c p : ℕ) : Type 0 where
   pub wide : width planes p ≡ width (h .image) (source h m c)
   pub high : height planes p ≡ height (h .image) (source h m c)
-  pub empty : Empty h m c → first planes p ≡ none
-  pub empty-only : first planes p ≡ none → Empty h m c
+  pub empty : Empty h m c → first planes p ≡ noData
+  pub empty-only : first planes p ≡ noData → Empty h m c
   pub sample : (Empty h m c → ⊥) → (y x : ℕ) → y < height planes p → x < width planes p → sampleAt planes p y x ≡ channelSample h m c y x

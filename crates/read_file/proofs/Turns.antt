@@ -30,7 +30,7 @@ use Rattle.read_file.specs.declared.Reading.{Reading}
 use Rattle.read_file.specs.declared.Found.{Found}
 use Rattle.read_file.specs.declared.Found.the-variants.{Nothing, Codestream, Short, Past, Whole}
 use Rattle.read_file.specs.File.{Walked, ended, turnedDown, thenWalk, stream, other, pastEnd, outer, run, reading}
-use Rattle.read_file.specs.Private.Turn.{found, Heads, box, boxAt, isRead, isEarly, header}
+use Rattle.read_file.specs.Private.Turn.{found, Heads, boxWith, boxAt, isRead, isEarly, headerOrSkipped}
 
 -- what was answered is what the definition says; where the file has ended, whatever the record before it
 pub gives : (j : Jp2) (w v : Walked) {r : Reading} → r ≡ reading j w → w ≡ v → r ≡ reading j v
@@ -70,7 +70,7 @@ pub heads-head : {at : ℕ} {c : List ℕ} {h : Jp2BoxHeader} → Heads at c h �
 heads-head p = ap (λ (x : Jp2BoxHeader). x .«header_length») (p .same)
 
 -- the box of a header that was read from c
-pub whole-box : {at : ℕ} {c : List ℕ} {h : Jp2BoxHeader} {content : List ℕ} → Heads at c h → content ≡ part c (h .«header_length») (h .length) → box (h .ty) at (at + h .«header_length») content ≡ firstBox at c
+pub whole-box : {at : ℕ} {c : List ℕ} {h : Jp2BoxHeader} {content : List ℕ} → Heads at c h → content ≡ part c (h .«header_length») (h .length) → boxWith (h .ty) at (at + h .«header_length») content ≡ firstBox at c
 whole-box p e = let q = p .same in cc
 
 -- a box of the file that is jp2h or belongs into it
@@ -81,22 +81,22 @@ module _ (kind : Jp2BoxType) (place start : ℕ) (c : List ℕ) (k : Jp2) (of : 
   q : tag kind ≡ tag FTYP → ⊥
   q = not-named headers kind FTYP tt of
 
-  outer-read : Says false (isEarly kind (k .status .state)) → headerBox kind place start c k ≡ outer (box kind place start c) k
+  outer-read : Says false (isEarly kind (k .status .state)) → headerBox kind place start c k ≡ outer (boxWith kind place start c) k
   unfolding outer
   outer-read e = either (holds (kind is JP2H)) at-jp2h at-child
     where
-      at-jp2h : holds (kind is JP2H) ≡ true → headerBox kind place start c k ≡ outer (box kind place start c) k
+      at-jp2h : holds (kind is JP2H) ≡ true → headerBox kind place start c k ≡ outer (boxWith kind place start c) k
       at-jp2h b = let z = said true (kind is JP2H) b in row 2 _ (p, (q, z)) (box-jp2h kind place start c k room z)
 
-      at-child : holds (kind is JP2H) ≡ false → headerBox kind place start c k ≡ outer (box kind place start c) k
+      at-child : holds (kind is JP2H) ≡ false → headerBox kind place start c k ≡ outer (boxWith kind place start c) k
       at-child b = let z = said false (kind is JP2H) b in row 4 _ (p, (q, (z, ((λ _. e z), of-header kind of z)))) (box-child kind place start c k room z)
 
-  pub outer-header : header kind place start c k ≡ outer (box kind place start c) k
-  unfolding header outer
-  outer-header = each (λ (x : Result). x ≡ outer (box kind place start c) k) _ ((λ h. row 3 _ (p, (q, (h .0, (of-header kind of (h .0), h .1)))) refl), outer-read)
+  pub outer-header : headerOrSkipped kind place start c k ≡ outer (boxWith kind place start c) k
+  unfolding headerOrSkipped outer
+  outer-header = each (λ (x : Result). x ≡ outer (boxWith kind place start c) k) _ ((λ h. row 3 _ (p, (q, (h .0, (of-header kind of (h .0), h .1)))) refl), outer-read)
 
 -- a box of the file that is not read
-pub outer-other : (kind : Jp2BoxType) (place start : ℕ) (c : List ℕ) (k : Jp2) → OneOf others (tagOf the-type kind) → other (boxAt kind place start) k ≡ outer (box kind place start c) k
+pub outer-other : (kind : Jp2BoxType) (place start : ℕ) (c : List ℕ) (k : Jp2) → OneOf others (tagOf the-type kind) → other (boxAt kind place start) k ≡ outer (boxWith kind place start c) k
 unfolding outer
 outer-other kind place start c k h =
     let n = not-read kind h in

@@ -10,7 +10,7 @@ ghost use Rattle.read_record.specs.State.{withBit, unknown, withUnknown};
 ghost use Rattle.read_record.specs.Answer.{accepted, answer};
 ghost use Rattle.read_jp2h.specs.Split.{firstBox};
 ghost use Rattle.read_file.specs.File.{ended, turnedDown, stream, other, pastEnd, outer, walk, read, reading};
-ghost use Rattle.read_file.specs.Private.Turn.{found, Heads, box, boxAt, isRead, isEarly, header};
+ghost use Rattle.read_file.specs.Private.Turn.{found, Heads, boxWith, boxAt, isRead, isEarly, headerOrSkipped};
 use box_header::Jp2BoxHeader;
 use box_header::LARGEST;
 use box_header::ReadHeader;
@@ -173,7 +173,7 @@ fn is_early(ty: Jp2BoxType, state: u32) -> bool
 
 // jp2h, or a box of it outside jp2h. Such a box is skipped before the header bit is set.
 fn read_header(ty: Jp2BoxType, c: &[u8], at: u32, start: u32, k: Jp2) -> Outcome
-    ensures { λ r. ⌜ r ≡ answer k (header ty at start (now (c .entry)) k) ⌝ }
+    ensures { λ r. ⌜ r ≡ answer k (headerOrSkipped ty at start (now (c .entry)) k) ⌝ }
 {
     let status = k.status;
     if is_early(ty, status.state) {
@@ -185,7 +185,7 @@ fn read_header(ty: Jp2BoxType, c: &[u8], at: u32, start: u32, k: Jp2) -> Outcome
 // Reads the content of a box of the file by the reader of its kind. jp2h and the boxes that belong into it have one arm: read_jp2h says why.
 fn read_outer(ty: Jp2BoxType, c: &[u8], at: u32, start: u32, k: Jp2) -> Outcome
     requires { ⌜ start + length (now c) ≤ largest ⌝ }
-    ensures { λ r. ⌜ r ≡ answer k (outer (box ty at start (now (c .entry))) k) ⌝ }
+    ensures { λ r. ⌜ r ≡ answer k (outer (boxWith ty at start (now (c .entry))) k) ⌝ }
 {
     match ty {
         Jp2BoxType::JP => read_signature::opj_jp2_read_jp(c, at, start, k),

@@ -32,8 +32,8 @@ UnkC c = number c 12 1
 abbrev pub IPR : List ℕ → ℕ
 IPR c = number c 13 1
 
-abbrev pub image : List ℕ → Image
-image c = record { h = HEIGHT c; w = WIDTH c; numcomps = NC c; bpc = BPC c; c = C c; unkc = UnkC c; ipr = IPR c }
+abbrev pub imageFields : List ℕ → Image
+imageFields c = record { h = HEIGHT c; w = WIDTH c; numcomps = NC c; bpc = BPC c; c = C c; unkc = UnkC c; ipr = IPR c }
 
 -- the box at a place of the file, with content c that begins at start; once the components are known a further ihdr is skipped
 unfoldable pub ihdr : ℕ → ℕ → List ℕ → Jp2 → Result
@@ -43,4 +43,4 @@ ihdr place start c j =
     ∣ length c ≠? 14 ⇒ refused 13 place
     ∣ HEIGHT c =? 0 or WIDTH c =? 0 or NC c =? 0 ⇒ refused 14 place
     ∣ mostComponents <? NC c ⇒ refused 15 place
-    ∣ otherwise (accepted (withHasIhdr (withImage (image c) j))))
+    ∣ otherwise (accepted (withHasIhdr (withImage (imageFields c) j))))

@@ -14,7 +14,7 @@ use Rattle.read_record.specs.Answer.{accepted}
 use Rattle.read_palette.specs.Pclr.{entryBytes, rowBytes, rowSize, B, Cji}
 use Rattle.read_file.specs.File.{read}
 use Rattle.read_rules.specs.Range.{end}
-use Rattle.read_rules.specs.Alike.{Alike, given, definitions}
+use Rattle.read_rules.specs.Alike.{Alike, given, definitionRange}
 use Rattle.read_rules.specs.Apart.{rows, kept}
 use Rattle.read_rules.specs.Free.{PaletteFree, MappingsFree, ProfileFree}
 use Rattle.read_rules.proofs.Sames.{Same, number-same, row-same, part-same}
@@ -40,7 +40,7 @@ palette-same {f} {g} p s j i h l =
     rw (b, w, k) (number-same (entryBytes (B f p i)) (s _ _ (omega arith) (omega (arith, entry-room f (p .place) (p .columns) (p .entries) j i h l))))
 
 -- f is read to m, and g differs from f at most in the definition list, the last that m keeps
-module _ (f g : List ℕ) (m : Jp2) (e : given (read f) ≡ accepted m) (a : Alike f g (definitions m)) where
+module _ (f g : List ℕ) (m : Jp2) (e : given (read f) ≡ accepted m) (a : Alike f g (definitionRange m)) where
   -- any bytes of another list
   pub kept-same : (i : ℕ) → i < 5 → (q l : ℕ) → (nth i (kept f m)) .place ≤ q → q + l ≤ end (nth i (kept f m)) → Same f q g q l
   kept-same i h q l from to =

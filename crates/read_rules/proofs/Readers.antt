@@ -13,7 +13,7 @@ use Rattle.read_record.specs.declared.Jp2.{Jp2}
 use Rattle.read_record.specs.Answer.{Result, refused}
 use Rattle.read_signature.specs.Signature.{signature}
 use Rattle.read_signature.specs.FileType.{fileType}
-use Rattle.read_image.specs.Ihdr.{image, ihdr}
+use Rattle.read_image.specs.Ihdr.{imageFields, ihdr}
 use Rattle.read_image.specs.Bpcc.{bpcc}
 use Rattle.read_colour.specs.Colr.{lab, colr}
 use Rattle.read_palette.specs.Pclr.{pclr}
@@ -68,7 +68,7 @@ module _ {f : List ℕ} {P : ℕ → Jp2 → Type 0} (law : Law f P) {X : Type 0
 
   ihdr-reads : Answers (ihdr place start c j)
   unfolding ihdr
-  ihdr-reads = each Answers _ ((λ _. on), λ _. ((λ _. no (omega arith) (omega arith)), λ _. ((λ _. no (omega arith) (omega arith)), λ _. ((λ _. no (omega arith) (omega arith)), λ h. with (sized (image c) h) refl))))
+  ihdr-reads = each Answers _ ((λ _. on), λ _. ((λ _. no (omega arith) (omega arith)), λ _. ((λ _. no (omega arith) (omega arith)), λ _. ((λ _. no (omega arith) (omega arith)), λ h. with (sized (imageFields c) h) refl))))
 
   bpcc-reads : Answers (bpcc place start c j)
   unfolding bpcc

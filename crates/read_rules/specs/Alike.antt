@@ -20,9 +20,9 @@ given (ended m) = accepted m
 given (turnedDown number place) = refused number place
 
 -- the bytes of the definition list: six for each definition
-abbrev pub definitions : Jp2 → Range
-definitions m = range (m .lists .cdef .place) (6 * m .lists .cdef .count)
+abbrev pub definitionRange : Jp2 → Range
+definitionRange m = range (m .lists .cdef .place) (6 * m .lists .cdef .count)
 
 -- a file that is read to a record answers the same, offset and record too, whatever bytes that record's definition list has
 abbrev pub DefinitionsFree : Type 0
-DefinitionsFree = (f g : List ℕ) (m : Jp2) → given (read f) ≡ accepted m → Alike f g (definitions m) → read g ≡ read f
+DefinitionsFree = (f g : List ℕ) (m : Jp2) → given (read f) ≡ accepted m → Alike f g (definitionRange m) → read g ≡ read f

@@ -21,7 +21,7 @@ use Rattle.read_channels.specs.Cdef.{cdef}
 use Rattle.read_jp2h.specs.Split.{split}
 use Rattle.read_jp2h.specs.Jp2h.{readAll, lacksIhdr, jp2h}
 use Rattle.read_file.specs.File.{Walked, codestream, ended, turnedDown, outer, run, walk, read}
-use Rattle.read_rules.specs.Files.{two, four, boxOf, extended, free, signatureBox, fileTypeBox, streamBox, unknownBox, ihdrBox, greyBox, pclrBox, picture}
+use Rattle.read_rules.specs.Files.{two, four, boxOf, extended, free, signatureBox, fileTypeBox, streamBox, unknownBox, ihdrBox, greyBox, pclrBox, pictureFile}
 
 -- the expected result of a file: the codestream at an offset, "ended", or a number at a place
 pub data Expected : Type 0 where
@@ -40,27 +40,27 @@ cases =
     -- empty file: ended
     [] gives over ∣
     -- grey, 2 by 3, 8 bits: 77 bytes plus 8, codestream at 85
-    picture (ihdrBox 1 ++ greyBox) gives streamAt 85 ∣
+    pictureFile (ihdrBox 1 ++ greyBox) gives streamAt 85 ∣
     -- ihdr 13 bytes: 13
-    picture (boxOf IHDR (four 3 ++ four 2 ++ two 1 ++ 7 ∷ 7 ∷ 0 ∷ []) ++ greyBox) gives refusedAt 13 40 ∣
+    pictureFile (boxOf IHDR (four 3 ++ four 2 ++ two 1 ++ 7 ∷ 7 ∷ 0 ∷ []) ++ greyBox) gives refusedAt 13 40 ∣
     -- count 16384 passes, 16385: 15
-    picture (ihdrBox 16384 ++ greyBox) gives streamAt 85 ∣
-    picture (ihdrBox 16385 ++ greyBox) gives refusedAt 15 40 ∣
+    pictureFile (ihdrBox 16384 ++ greyBox) gives streamAt 85 ∣
+    pictureFile (ihdrBox 16385 ++ greyBox) gives refusedAt 15 40 ∣
     -- pclr 1024 entries pass, 1025: 19
-    picture (ihdrBox 1 ++ pclrBox 1024 0x07 1024) gives streamAt 1106 ∣
-    picture (ihdrBox 1 ++ pclrBox 1025 0x07 1025) gives refusedAt 19 62 ∣
+    pictureFile (ihdrBox 1 ++ pclrBox 1024 0x07 1024) gives streamAt 1106 ∣
+    pictureFile (ihdrBox 1 ++ pclrBox 1025 0x07 1025) gives refusedAt 19 62 ∣
     -- width byte 0x07: 1 byte; 0x08: 2; 0x25: 4
-    picture (ihdrBox 1 ++ pclrBox 1 0x07 1) gives streamAt 83 ∣
-    picture (ihdrBox 1 ++ pclrBox 1 0x07 0) gives refusedAt 20 62 ∣
-    picture (ihdrBox 1 ++ pclrBox 1 0x08 2) gives streamAt 84 ∣
-    picture (ihdrBox 1 ++ pclrBox 1 0x08 1) gives refusedAt 20 62 ∣
-    picture (ihdrBox 1 ++ pclrBox 1 0x25 4) gives streamAt 86 ∣
-    picture (ihdrBox 1 ++ pclrBox 1 0x25 3) gives refusedAt 20 62 ∣
+    pictureFile (ihdrBox 1 ++ pclrBox 1 0x07 1) gives streamAt 83 ∣
+    pictureFile (ihdrBox 1 ++ pclrBox 1 0x07 0) gives refusedAt 20 62 ∣
+    pictureFile (ihdrBox 1 ++ pclrBox 1 0x08 2) gives streamAt 84 ∣
+    pictureFile (ihdrBox 1 ++ pclrBox 1 0x08 1) gives refusedAt 20 62 ∣
+    pictureFile (ihdrBox 1 ++ pclrBox 1 0x25 4) gives streamAt 86 ∣
+    pictureFile (ihdrBox 1 ++ pclrBox 1 0x25 3) gives refusedAt 20 62 ∣
     -- child length 0: 10; extended 15: 11; 16: empty content
-    picture (four 0 ++ four (numberOf IHDR)) gives refusedAt 10 40 ∣
-    picture (extended free 15) gives refusedAt 11 40 ∣
-    picture (extended free 16 ++ ihdrBox 1) gives streamAt 86 ∣
-    picture (extended (numberOf IHDR) 16) gives refusedAt 13 40 ∣
+    pictureFile (four 0 ++ four (numberOf IHDR)) gives refusedAt 10 40 ∣
+    pictureFile (extended free 15) gives refusedAt 11 40 ∣
+    pictureFile (extended free 16 ++ ihdrBox 1) gives streamAt 86 ∣
+    pictureFile (extended (numberOf IHDR) 16) gives refusedAt 13 40 ∣
     -- signature, ftyp (20 bytes), empty unknown box, codestream: 48
     signatureBox ++ fileTypeBox ++ unknownBox ++ streamBox gives streamAt 48 ∣
     end
@@ -80,6 +80,6 @@ abbrev pub all : Cases → Bool
 all end = true
 all (file gives expected ∣ rest) = meets (read file) expected && all rest
 
-pub marked : all cases ≡ true
+pub marked-cases : all cases ≡ true
 unfolding table number part kindOf headerLength boxLength withBit signature fileType ihdr bpcc lab colr entryBytes rowBytes pclr cmap cdef split readAll lacksIhdr jp2h outer run walk
-marked = refl
+marked-cases = refl

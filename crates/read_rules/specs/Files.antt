@@ -17,12 +17,12 @@ zeros zero = []
 zeros (suc n) = 0 ∷ zeros n
 
 -- LBox, TBox and the content
-abbrev pub box : ℕ → List ℕ → List ℕ
-box type content = four (8 + length content) ++ four type ++ content
+abbrev pub boxByNumber : ℕ → List ℕ → List ℕ
+boxByNumber type content = four (8 + length content) ++ four type ++ content
 
 -- the box of a kind
 abbrev pub boxOf : Jp2BoxType → List ℕ → List ℕ
-boxOf kind content = box (numberOf kind) content
+boxOf kind content = boxByNumber (numberOf kind) content
 
 -- LBox 1, TBox, XLBox
 abbrev pub extended : ℕ → ℕ → List ℕ
@@ -46,7 +46,7 @@ abbrev pub free : ℕ
 free = 0x66726565
 
 abbrev pub unknownBox : List ℕ
-unknownBox = box free []
+unknownBox = boxByNumber free []
 
 -- height 3, width 2, the count, 8 bits
 abbrev pub ihdrBox : ℕ → List ℕ
@@ -60,5 +60,5 @@ abbrev pub pclrBox : ℕ → ℕ → ℕ → List ℕ
 pclrBox entries width bytes = boxOf PCLR (two entries ++ 1 ∷ width ∷ [] ++ zeros bytes)
 
 -- signature, file type, jp2h of the given boxes, and the codestream
-abbrev pub picture : List ℕ → List ℕ
-picture header = signatureBox ++ fileTypeBox ++ boxOf JP2H header ++ streamBox
+abbrev pub pictureFile : List ℕ → List ℕ
+pictureFile header = signatureBox ++ fileTypeBox ++ boxOf JP2H header ++ streamBox

@@ -8,11 +8,11 @@ use Rattle.read_record.specs.Answer.{accepted}
 use Rattle.read_palette.specs.Pclr.{B, Cji}
 use Rattle.read_channels.specs.Cmap.{CMP, MTYP, PCOL}
 use Rattle.read_file.specs.File.{read}
-use Rattle.read_rules.specs.Alike.{Alike, given, definitions}
+use Rattle.read_rules.specs.Alike.{Alike, given, definitionRange}
 
 -- where f is read to a record, and g differs from f at most in that record's definition list, something is the same in both
 abbrev pub Free : (List ℕ → List ℕ → Jp2 → Type 0) → Type 0
-Free Same = (f g : List ℕ) (m : Jp2) → given (read f) ≡ accepted m → Alike f g (definitions m) → Same f g m
+Free Same = (f g : List ℕ) (m : Jp2) → given (read f) ≡ accepted m → Alike f g (definitionRange m) → Same f g m
 
 -- every Bi, and every entry Cji
 pub record SamePalette (f g : List ℕ) (m : Jp2) : Type 0 where

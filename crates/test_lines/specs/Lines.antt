@@ -13,5 +13,5 @@ abbrev pub printed : List ℕ → ℕ
 printed line = length (take most line)
 
 -- a tally with 1 more at count k, by 64 bits
-unfoldable pub counted : ℕ → List ℕ → List ℕ
-counted k tally = table (k <? length tally ⇒ set tally k ((getD tally k 0 + 1) % 2 ^ 64) ∣ otherwise tally)
+unfoldable pub tallied : ℕ → List ℕ → List ℕ
+tallied k tally = table (k <? length tally ⇒ set tally k ((getD tally k 0 + 1) % 2 ^ 64) ∣ otherwise tally)

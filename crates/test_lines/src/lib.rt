@@ -2,7 +2,7 @@
 ghost use mathlib.Core.Path.{_≡_};
 ghost use lib.ListN.{length, getD};
 ghost use Rattle.text.specs.Text.{filled};
-ghost use Rattle.test_lines.specs.Lines.{printed, counted};
+ghost use Rattle.test_lines.specs.Lines.{printed, tallied};
 use libc::STDOUT_FILENO;
 
 // Prints a shape in which each # is replaced by the next of the numbers. Answers how many bytes that is: 4096 at most, the rest is left out.
@@ -38,7 +38,7 @@ fn byte(b: u8) {
 
 // Adds 1 to count k of a tally; a k past its end changes nothing.
 pub fn count(tally: &mut [usize], k: usize)
-    ensures { λ _. ⌜ now (tally .exit) ≡ counted k (now (tally .entry)) ⌝ }
+    ensures { λ _. ⌜ now (tally .exit) ≡ tallied k (now (tally .entry)) ⌝ }
 {
     if k < tally.len() {
         tally[k] = std::num::wrapping_add_usize(tally[k], 1);

@@ -22,14 +22,14 @@ unfoldable pub decimal : ℕ → List ℕ
 decimal n = digits (suc n) n
 
 -- #, the byte of a shape that is replaced by a number
-abbrev pub mark : ℕ
-mark = 35
+abbrev pub placeholder : ℕ
+placeholder = 35
 
 -- a shape in which each # is replaced by the next of some numbers; where none is left, # is kept
 unfoldable pub filled : List ℕ → List ℕ → List ℕ
 filled [] numbers = []
 filled (b ∷ shape) [] = b ∷ filled shape []
-filled (b ∷ shape) (n ∷ numbers) = table (b =? mark ⇒ decimal n ++ filled shape numbers ∣ otherwise (b ∷ filled shape (n ∷ numbers)))
+filled (b ∷ shape) (n ∷ numbers) = table (b =? placeholder ⇒ decimal n ++ filled shape numbers ∣ otherwise (b ∷ filled shape (n ∷ numbers)))
 
 -- numbers, a text before each
 unfoldable pub behind : List ℕ → List ℕ → List ℕ

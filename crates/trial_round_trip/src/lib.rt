@@ -2,7 +2,7 @@
 ghost use mathlib.Core.Path.{_≡_};
 ghost use lib.ListN.{length};
 ghost use Rattle.write_rules.specs.Writing.{write, destination};
-ghost use Rattle.write_rules.specs.Request.{asked};
+ghost use Rattle.write_rules.specs.Request.{request};
 ghost use Rattle.write_boxes.specs.Answers.{answered};
 ghost use Rattle.trial_round_trip.specs.Back.{bytesOf, readingOf, ComesBack};
 use read_file::Reading;
@@ -38,10 +38,10 @@ pub fn write_and_read(
     codestream: u64,
     d: &mut [u8],
 ) -> Back
-    ensures { λ r. ⌜ r .written ≡ answered (write (asked (now (comps .entry)) count x0 y0 x1 y1 space (now (profile .entry)) codestream (length (now (d .entry))))) ⌝ }
-    ensures { λ _. ⌜ now (d .exit) ≡ destination (now (d .entry)) (write (asked (now (comps .entry)) count x0 y0 x1 y1 space (now (profile .entry)) codestream (length (now (d .entry))))) ⌝ }
+    ensures { λ r. ⌜ r .written ≡ answered (write (request (now (comps .entry)) count x0 y0 x1 y1 space (now (profile .entry)) codestream (length (now (d .entry))))) ⌝ }
+    ensures { λ _. ⌜ now (d .exit) ≡ destination (now (d .entry)) (write (request (now (comps .entry)) count x0 y0 x1 y1 space (now (profile .entry)) codestream (length (now (d .entry))))) ⌝ }
     ensures { λ r. ⌜ r .reading ≡ readingOf (r .written) (now (d .exit)) ⌝ }
-    ensures { λ r. ⌜ ComesBack (asked (now (comps .entry)) count x0 y0 x1 y1 space (now (profile .entry)) codestream (length (now (d .entry)))) (r .written) (now (d .exit)) (r .reading) ⌝ }
+    ensures { λ r. ⌜ ComesBack (request (now (comps .entry)) count x0 y0 x1 y1 space (now (profile .entry)) codestream (length (now (d .entry)))) (r .written) (now (d .exit)) (r .reading) ⌝ }
 {
     let written = write_boxes::write_boxes(
         comps,

@@ -12,7 +12,7 @@ use Rattle.box_number.proofs.Indices.{lowest-none}
 use Rattle.write_rules.specs.declared.Fields.{Fields}
 use Rattle.write_rules.specs.declared.Encoder.{Encoder}
 use Rattle.write_rules.specs.declared.Encoder.the-variants.{Ready, Refused}
-use Rattle.write_rules.specs.Request.{Request, asked}
+use Rattle.write_rules.specs.Request.{Request, request}
 use Rattle.read_record.specs.Component.{mostComponents}
 use Rattle.write_rules.specs.Setup.{N, fieldsOf, ill, setUp}
 use Rattle.write_rules.specs.Writing.{declined, writeFields, afterSetUp, write}
@@ -20,11 +20,11 @@ use Rattle.write_boxes.specs.Private.Writable.{Writable}
 
 module _ (comps : List ℕ) (count x0 y0 x1 y1 space : ℕ) (profile : List ℕ) (codestream room : ℕ) where
   abbrev r : Request
-  r = asked comps count x0 y0 x1 y1 space profile codestream room
+  r = request comps count x0 y0 x1 y1 space profile codestream room
 
   -- the same request, as it is set up
   abbrev q : Request
-  q = asked comps count x0 y0 x1 y1 space profile 0 0
+  q = request comps count x0 y0 x1 y1 space profile 0 0
 
   same : setUp q ≡ setUp r
   unfolding setUp

@@ -7,9 +7,9 @@ ghost use lib.ListN.{length};
 ghost use Rattle.box_number.specs.Number.{bytes, placed};
 ghost use Rattle.box_number.specs.Table.{_≠?_, _and_, holds};
 ghost use Rattle.box_number.proofs.Rows.{Says};
-ghost use Rattle.write_rules.specs.Request.{asked};
+ghost use Rattle.write_rules.specs.Request.{request};
 ghost use Rattle.read_record.specs.Component.{mostComponents};
-ghost use Rattle.write_rules.specs.Setup.{BPCi, definition, ill};
+ghost use Rattle.write_rules.specs.Setup.{BPCi, writtenDefinition, ill};
 ghost use Rattle.write_rules.specs.Box.{boxHeader};
 ghost use Rattle.write_rules.specs.Signature.{signature};
 ghost use Rattle.write_rules.specs.FileType.{fileType};
@@ -228,7 +228,7 @@ fn put_definition(d: &mut [u8], at: usize, channel: u32, typ: u32, asoc: u32) ->
 // The definition of channel c: a colour, the opacity, or a channel of which nothing is said.
 fn define(d: &mut [u8], at: usize, comps: &[u32], colours: u32, c: u32) -> usize
     requires { ⌜ (at + 6 ≤ length (now d)) × (c < mostComponents) ⌝ }
-    ensures { λ r. ⌜ (r ≡ at + 6) × (now (d .exit) ≡ placed (now (d .entry)) at (cdefEntry (definition (now (comps .entry)) colours c))) ⌝ }
+    ensures { λ r. ⌜ (r ≡ at + 6) × (now (d .exit) ≡ placed (now (d .entry)) at (cdefEntry (writtenDefinition (now (comps .entry)) colours c))) ⌝ }
 {
     if c < colours {
         return put_definition(d, at, c, COLOUR, c + 1);
@@ -369,8 +369,8 @@ pub fn write_boxes(
     codestream: u64,
     d: &mut [u8],
 ) -> Written
-    ensures { λ r. ⌜ r ≡ answered (write (asked (now (comps .entry)) count x0 y0 x1 y1 space (now (profile .entry)) codestream (length (now (d .entry))))) ⌝ }
-    ensures { λ _. ⌜ now (d .exit) ≡ destination (now (d .entry)) (write (asked (now (comps .entry)) count x0 y0 x1 y1 space (now (profile .entry)) codestream (length (now (d .entry))))) ⌝ }
+    ensures { λ r. ⌜ r ≡ answered (write (request (now (comps .entry)) count x0 y0 x1 y1 space (now (profile .entry)) codestream (length (now (d .entry))))) ⌝ }
+    ensures { λ _. ⌜ now (d .exit) ≡ destination (now (d .entry)) (write (request (now (comps .entry)) count x0 y0 x1 y1 space (now (profile .entry)) codestream (length (now (d .entry))))) ⌝ }
 {
     match write_setup::opj_jp2_setup_encoder(comps, count, x0, y0, x1, y1, space, profile) {
         Encoder::Refused(number, index) => Written::Refused(number, index as u64),

@@ -12,16 +12,16 @@ use Rattle.box_number.proofs.Rows.{Says, row, each}
 use Rattle.read_channels.specs.Definitions.{Def}
 use Rattle.box_number.proofs.Indices.{decide, lowest-none}
 use Rattle.write_rules.specs.declared.Encoder.the-variants.{Ready}
-use Rattle.write_rules.specs.Request.{Request, precision, sign}
+use Rattle.write_rules.specs.Request.{Request, precision, signOf}
 use Rattle.read_record.specs.Component.{mostComponents}
-use Rattle.write_rules.specs.Setup.{wrapping, BPCi, BPC, METH, EnumCS, N, definition, varies, otherBits, mostBits, fieldsOf, ill, setUp}
+use Rattle.write_rules.specs.Setup.{wrapping, BPCi, BPC, METH, EnumCS, N, writtenDefinition, varies, otherBits, mostBits, fieldsOf, ill, setUp}
 use Rattle.write_rules.specs.Writing.{Writing, written, declined, front, mostProfile, mostCodestream, writeFields, afterSetUp, write}
 
 -- what no row of the table refuses
 pub record Fit (r : Request) : Type 0 where
   pub some : 1 ≤ r .count
   pub most : r .count ≤ mostComponents
-  pub bits : (c : ℕ) → c < r .count → (1 ≤ precision (r .components) c) × (precision (r .components) c ≤ mostBits) × (sign (r .components) c ≤ 1)
+  pub bits : (c : ℕ) → c < r .count → (1 ≤ precision (r .components) c) × (precision (r .components) c ≤ mostBits) × (signOf (r .components) c ≤ 1)
   pub high : fieldsOf r .h ≡ 0 → ⊥
   pub wide : fieldsOf r .w ≡ 0 → ⊥
   pub profile : length (r .profile) ≤ mostProfile
@@ -132,6 +132,6 @@ module _ (r : Request) where
   abbrev Small : Def → Type 0
   Small d = (d .channel < 65536) × (d .typ < 65536) × (d .asoc < 65536)
 
-  pub definition-most : (c : ℕ) → c < 16384 → Small (definition (r .components) (fieldsOf r .colours) c)
-  unfolding definition
+  pub definition-most : (c : ℕ) → c < 16384 → Small (writtenDefinition (r .components) (fieldsOf r .colours) c)
+  unfolding writtenDefinition
   definition-most c l = each Small _ ((λ _. omega arith), λ _. ((λ _. omega arith), λ _. omega arith))

@@ -25,7 +25,7 @@ use Rattle.write_rules.specs.Request.{Request}
 use Rattle.write_rules.specs.Bpcc.{bpccContent}
 use Rattle.write_rules.specs.Ihdr.{ihdrContent}
 use Rattle.write_rules.specs.Box.{series}
-use Rattle.write_rules.specs.Setup.{BPCi, C, UnkC, IPR, PREC, APPROX, definition, fieldsOf}
+use Rattle.write_rules.specs.Setup.{BPCi, C, UnkC, IPR, PREC, APPROX, writtenDefinition, fieldsOf}
 use Rattle.write_rules.specs.Colr.{specification, colrContent}
 use Rattle.write_rules.specs.Cdef.{cdefEntry, cdefContent}
 use Rattle.write_rules.proofs.Numbers.{number-here, number-last, number-after}
@@ -57,7 +57,7 @@ abbrev pub painted : Request → Jp2 → Colour
 painted r k = record { meth = fieldsOf r .meth; precedence = PREC; approx = APPROX; enumcs = fieldsOf r .enumcs; lab = k .colour .lab; held = 1 }
 
 module _ (r : Request) (fit : Fit r) where
-  image-is : image.image (ihdrContent (fieldsOf r)) ≡ sized r
+  image-is : image.imageFields (ihdrContent (fieldsOf r)) ≡ sized r
   unfolding number bytes
   image-is =
       let b = bpc-most r fit in
@@ -135,6 +135,6 @@ module _ (r : Request) (fit : Fit r) where
   cdef-read at k some z =
       let b = n-most r fit in
       let m = fit .most in
-      let n : channels.N (cdefContent (r .components) (fieldsOf r)) ≡ fieldsOf r .definitions = number-here 2 (fieldsOf r .definitions) (series (λ c. cdefEntry (definition (r .components) (fieldsOf r .colours) c)) (fieldsOf r .definitions)) (omega arith) (omega arith) in
+      let n : channels.N (cdefContent (r .components) (fieldsOf r)) ≡ fieldsOf r .definitions = number-here 2 (fieldsOf r .definitions) (series (λ c. cdefEntry (writtenDefinition (r .components) (fieldsOf r .colours) c)) (fieldsOf r .definitions)) (omega arith) (omega arith) in
       let l = length-cdefContent (r .components) (fieldsOf r) in
       rw kind-cdef (sym (row 4 _ (z, (omega arith, ((λ x. some (sym n ∙ x)), (omega arith, tt)))) (rw n refl)))

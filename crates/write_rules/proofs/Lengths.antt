@@ -12,7 +12,7 @@ use Rattle.box_kind.specs.declared.Jp2BoxType.the-variants.{JP, FTYP, IHDR}
 use Rattle.read_channels.specs.Definitions.{Def}
 use Rattle.write_rules.specs.declared.Fields.{Fields}
 use Rattle.write_rules.specs.Box.{boxHeader, box, series}
-use Rattle.write_rules.specs.Setup.{BPCi, definition}
+use Rattle.write_rules.specs.Setup.{BPCi, writtenDefinition}
 use Rattle.read_signature.specs.Signature.{signatureContent}
 use Rattle.write_rules.specs.Signature.{signature}
 use Rattle.write_rules.specs.FileType.{fileTypeContent, fileType}
@@ -56,7 +56,7 @@ pub length-cdefEntry : (d : Def) → length (cdefEntry d) ≡ 6
 length-cdefEntry d = simp (length-append, length-bytes)
 
 pub length-cdefEntries : (comps : List ℕ) (many n : ℕ) → length (cdefEntries comps many n) ≡ 6 * n
-length-cdefEntries comps many n = length-series (λ c. cdefEntry (definition comps many c)) 6 (λ i. length-cdefEntry (definition comps many i)) n
+length-cdefEntries comps many n = length-series (λ c. cdefEntry (writtenDefinition comps many c)) 6 (λ i. length-cdefEntry (writtenDefinition comps many i)) n
 
 pub length-cdefContent : (comps : List ℕ) (s : Fields) → length (cdefContent comps s) ≡ 2 + 6 * s .definitions
 length-cdefContent comps s = let e = length-cdefEntries comps (s .colours) (s .definitions) in simp (length-append, length-bytes, e)

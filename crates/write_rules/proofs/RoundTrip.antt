@@ -18,7 +18,7 @@ use Rattle.read_channels.specs.Definitions.{Def, def}
 use Rattle.read_channels.specs.Definitions as order
 use Rattle.box_number.proofs.Indices.{decide}
 use Rattle.write_rules.specs.Request.{Request, precision}
-use Rattle.write_rules.specs.Setup.{varies, BPCi, PREC, APPROX, definition, fieldsOf}
+use Rattle.write_rules.specs.Setup.{varies, BPCi, PREC, APPROX, writtenDefinition, fieldsOf}
 use Rattle.write_rules.specs.Box.{boxHeader, box, series}
 use Rattle.write_rules.specs.Signature.{signature}
 use Rattle.write_rules.specs.FileType.{CL, fileType}
@@ -124,7 +124,7 @@ module _ (r : Request) (fit : Fit r) (stream : List ℕ) where
 
   -- the definitions
   abbrev piece : ℕ → List ℕ
-  piece c = cdefEntry (definition (r .components) (fieldsOf r .colours) c)
+  piece c = cdefEntry (writtenDefinition (r .components) (fieldsOf r .colours) c)
 
   defs-back : defsAt r .count ≡ fieldsOf r .definitions
   defs-back = decide (fieldsOf r .definitions =? 0) (λ h. rw (cdef-none r h .1) (sym h)) (λ h. rw (cdef-some r h .1) refl)
@@ -141,18 +141,18 @@ module _ (r : Request) (fit : Fit r) (stream : List ℕ) where
     -- a number of definition i
     field-back : (at j : ℕ) → at ≡ place + (6 * i + j) → j + 2 ≤ 6 → number f at 2 ≡ number (piece i) j 2
     field-back at j e h =
-        let s = length-series piece 6 (λ c. length-cdefEntry (definition (r .components) (fieldsOf r .colours) c)) (fieldsOf r .definitions) in
-        rw e (number-lies series-lies (6 * i + j) 2 (omega arith) ∙ number-series piece 6 (λ c. length-cdefEntry (definition (r .components) (fieldsOf r .colours) c)) (fieldsOf r .definitions) i j 2 l h)
+        let s = length-series piece 6 (λ c. length-cdefEntry (writtenDefinition (r .components) (fieldsOf r .colours) c)) (fieldsOf r .definitions) in
+        rw e (number-lies series-lies (6 * i + j) 2 (omega arith) ∙ number-series piece 6 (λ c. length-cdefEntry (writtenDefinition (r .components) (fieldsOf r .colours) c)) (fieldsOf r .definitions) i j 2 l h)
 
-    definition-is : order.definition f (span place (fieldsOf r .definitions)) i ≡ definition (r .components) (fieldsOf r .colours) i
+    definition-is : order.definition f (span place (fieldsOf r .definitions)) i ≡ writtenDefinition (r .components) (fieldsOf r .colours) i
     definition-is =
-        let d = fields-back (definition (r .components) (fieldsOf r .colours) i) (definition-most r i (omega (arith, n-most r fit, fit .most))) in
+        let d = fields-back (writtenDefinition (r .components) (fieldsOf r .colours) i) (definition-most r i (omega (arith, n-most r fit, fit .most))) in
         let x = field-back (place + 6 * i) 0 (omega arith) (omega arith) ∙ d .0 in
         let y = field-back (place + 6 * i + 2) 2 (omega arith) (omega arith) ∙ d .1 in
         let z = field-back (place + 6 * i + 4) 4 (omega arith) (omega arith) ∙ d .2 in
         λ k. def (x k) (y k) (z k)
 
-  definition-back : (i : ℕ) → i < fieldsOf r .definitions → order.definition f (defsAt r) i ≡ definition (r .components) (fieldsOf r .colours) i
+  definition-back : (i : ℕ) → i < fieldsOf r .definitions → order.definition f (defsAt r) i ≡ writtenDefinition (r .components) (fieldsOf r .colours) i
   definition-back i l = let some : fieldsOf r .definitions ≡ 0 → ⊥ = λ e. omega arith in rw (cdef-some r some .1) (definition-is some i l)
 
 pub round-trip : RoundTrip
@@ -185,7 +185,7 @@ round-trip r bs stream e h =
         lab = refl;
         profile = profile-back r fit stream;
         definitions = defs-back r fit stream;
-        definition = definition-back r fit stream;
+        writtenDefinition = definition-back r fit stream;
         palette = refl;
         mappings = refl;
       },

@@ -7,7 +7,7 @@ use Rattle.read_record.specs.declared.Jp2.{Jp2}
 use Rattle.read_image.specs.Bpcc as image
 use Rattle.read_channels.specs.Definitions as order
 use Rattle.write_rules.specs.Request.{Request, precision}
-use Rattle.write_rules.specs.Setup.{BPCi, definition, fieldsOf}
+use Rattle.write_rules.specs.Setup.{BPCi, writtenDefinition, fieldsOf}
 use Rattle.write_rules.specs.RoundTrip.{depthCount, depthByte, ReadBack}
 
 module _ (r : Request) (f : List ℕ) (m : Jp2) (back : ReadBack r f m) (i : ℕ) where
@@ -17,5 +17,5 @@ module _ (r : Request) (f : List ℕ) (m : Jp2) (back : ReadBack r f m) (i : ℕ
   pub tells-precision : i < r .count → depthByte f m i % 128 + 1 ≡ precision (r .components) i
   tells-precision l = back .precise i l
 
-  pub tells-definition : i < fieldsOf r .definitions → order.definition f (m .lists .cdef) i ≡ definition (r .components) (fieldsOf r .colours) i
+  pub tells-definition : i < fieldsOf r .definitions → order.definition f (m .lists .cdef) i ≡ writtenDefinition (r .components) (fieldsOf r .colours) i
   tells-definition l = back .definition i l

@@ -8,7 +8,7 @@ use Rattle.box_number.specs.Table.{table}
 use Rattle.box_number.specs.Lowest.{lowest}
 use Rattle.write_rules.specs.Request.{Request}
 use Rattle.write_rules.specs.Box.{boxHeader, box, series}
-use Rattle.write_rules.specs.Setup.{wrapping, BPCi, BPC, METH, EnumCS, colours, markCount, N, definition, setUp}
+use Rattle.write_rules.specs.Setup.{wrapping, BPCi, BPC, METH, EnumCS, colours, markCount, N, writtenDefinition, setUp}
 use Rattle.write_rules.specs.Bpcc.{bpcc}
 use Rattle.write_rules.specs.Colr.{specification}
 use Rattle.write_rules.specs.Cdef.{cdef}
@@ -19,13 +19,13 @@ abbrev pub comp : ℕ → ℕ → ℕ → List ℕ
 comp precision sign mark = 1 ∷ 1 ∷ 2 ∷ 3 ∷ 0 ∷ 0 ∷ precision ∷ precision ∷ sign ∷ 0 ∷ 0 ∷ 0 ∷ mark ∷ []
 
 -- the request for a picture of 2 by 3, by its components, their count, its colour space, the length of its codestream and the room for its boxes
-abbrev pub request : List ℕ → ℕ → ℕ → ℕ → ℕ → Request
-request components count space codestream room =
+abbrev pub requestFor : List ℕ → ℕ → ℕ → ℕ → ℕ → Request
+requestFor components count space codestream room =
     record { components = components; count = count; x0 = 0; y0 = 0; x1 = 2; y1 = 3; space = space; profile = []; codestream = codestream; room = room }
 
 -- grey, 8 bits
 abbrev pub grey : Request
-grey = request (comp 8 0 0) 1 2 0 85
+grey = requestFor (comp 8 0 0) 1 2 0 85
 
 -- its 77 bytes: signature, file type, jp2h of ihdr and colr
 abbrev pub greyBoxes : List ℕ
@@ -42,7 +42,7 @@ greyStream = 0 ∷ 0 ∷ 0 ∷ 8 ∷ 0x6a ∷ 0x70 ∷ 0x32 ∷ 0x63 ∷ []
 
 -- grey and its opacity, 8 bits and 1: bpc is 255, and there are bpcc and cdef
 abbrev pub opaque : Request
-opaque = request (comp 8 0 0 ++ comp 1 0 1) 2 2 1000 200
+opaque = requestFor (comp 8 0 0 ++ comp 1 0 1) 2 2 1000 200
 
 abbrev pub opaqueBoxes : List ℕ
 opaqueBoxes =
@@ -103,38 +103,38 @@ cases =
     -- grey and its opacity
     opaque gives written opaqueBoxes ∣
     -- sRGB and sYCC, with three colours and an opacity behind a channel of which nothing is said
-    request (plain 4 ++ comp 8 0 1) 5 1 0 200 gives written (start ++ eight 85 5 ++ colrSpace 16 ++ five ++ greyStream) ∣
-    request (plain 4 ++ comp 8 0 2) 5 3 0 200 gives written (start ++ eight 85 5 ++ colrSpace 18 ++ five ++ greyStream) ∣
+    requestFor (plain 4 ++ comp 8 0 1) 5 1 0 200 gives written (start ++ eight 85 5 ++ colrSpace 16 ++ five ++ greyStream) ∣
+    requestFor (plain 4 ++ comp 8 0 2) 5 3 0 200 gives written (start ++ eight 85 5 ++ colrSpace 18 ++ five ++ greyStream) ∣
     -- no cdef where a colour is marked, where two components are, and where the colour space is another
-    request (comp 8 0 1 ++ plain 3) 4 1 0 200 gives written (start ++ eight 45 4 ++ colrSpace 16 ++ greyStream) ∣
-    request (plain 1 ++ comp 8 0 1 ++ comp 8 0 1) 3 2 0 200 gives written (start ++ eight 45 3 ++ colrSpace 17 ++ greyStream) ∣
-    request (plain 3 ++ comp 8 0 1) 4 4 0 200 gives written (start ++ eight 45 4 ++ colrSpace 0 ++ greyStream) ∣
+    requestFor (comp 8 0 1 ++ plain 3) 4 1 0 200 gives written (start ++ eight 45 4 ++ colrSpace 16 ++ greyStream) ∣
+    requestFor (plain 1 ++ comp 8 0 1 ++ comp 8 0 1) 3 2 0 200 gives written (start ++ eight 45 3 ++ colrSpace 17 ++ greyStream) ∣
+    requestFor (plain 3 ++ comp 8 0 1) 4 4 0 200 gives written (start ++ eight 45 4 ++ colrSpace 0 ++ greyStream) ∣
     -- a profile: no colour space, and no cdef
     record { components = plain 3 ++ comp 8 0 1; count = 4; x0 = 0; y0 = 0; x1 = 2; y1 = 3; space = 1; profile = 1 ∷ 2 ∷ []; codestream = 0; room = 200 } gives written (start ++ eight 43 4 ++ colrProfile ++ greyStream) ∣
     -- corners that wrap
     record { components = plain 1; count = 1; x0 = 4294967295; y0 = 4294967294; x1 = 1; y1 = 1; space = 2; profile = []; codestream = 0; room = 85 } gives written (greyBoxes ++ greyStream) ∣
     -- signs that differ: no bpcc, which would take 10 bytes more
-    request (comp 8 0 0 ++ comp 8 1 0) 2 2 0 84 gives declined 30 85 ∣
+    requestFor (comp 8 0 0 ++ comp 8 1 0) 2 2 0 84 gives declined 30 85 ∣
     -- a byte less of room
-    request (comp 8 0 0) 1 2 0 84 gives declined 30 85 ∣
+    requestFor (comp 8 0 0) 1 2 0 84 gives declined 30 85 ∣
     -- no component, and 16385
-    request [] 0 2 0 85 gives declined 31 0 ∣
-    request [] 16385 2 0 85 gives declined 31 0 ∣
+    requestFor [] 0 2 0 85 gives declined 31 0 ∣
+    requestFor [] 16385 2 0 85 gives declined 31 0 ∣
     -- a component that is not in the list
-    request (comp 8 0 0) 2 2 0 85 gives declined 29 0 ∣
+    requestFor (comp 8 0 0) 2 2 0 85 gives declined 29 0 ∣
     -- precision 39, and sign 2
-    request (comp 38 1 0 ++ comp 39 0 0) 2 2 0 85 gives declined 32 1 ∣
-    request (comp 8 2 0 ++ comp 39 0 0) 2 2 0 85 gives declined 32 0 ∣
+    requestFor (comp 38 1 0 ++ comp 39 0 0) 2 2 0 85 gives declined 32 1 ∣
+    requestFor (comp 8 2 0 ++ comp 39 0 0) 2 2 0 85 gives declined 32 0 ∣
     -- corners of which two are the same
     record { components = comp 8 0 0; count = 1; x0 = 2; y0 = 0; x1 = 2; y1 = 3; space = 2; profile = []; codestream = 0; room = 85 } gives declined 33 0 ∣
     -- a codestream that would not fit behind the longest boxes
-    request (comp 8 0 0) 1 2 4261412864 85 gives declined 34 0 ∣
+    requestFor (comp 8 0 0) 1 2 4261412864 85 gives declined 34 0 ∣
     -- of several numbers the first in the order 31, 29, 32, 33, 34, 30
-    request [] 0 2 4261412864 0 gives declined 31 0 ∣
+    requestFor [] 0 2 4261412864 0 gives declined 31 0 ∣
     record { components = comp 39 0 0; count = 2; x0 = 0; y0 = 0; x1 = 0; y1 = 0; space = 2; profile = []; codestream = 4261412864; room = 0 } gives declined 29 0 ∣
     record { components = comp 39 0 0; count = 1; x0 = 0; y0 = 0; x1 = 0; y1 = 0; space = 2; profile = []; codestream = 4261412864; room = 0 } gives declined 32 0 ∣
     record { components = comp 8 0 0; count = 1; x0 = 0; y0 = 0; x1 = 0; y1 = 0; space = 2; profile = []; codestream = 4261412864; room = 0 } gives declined 33 0 ∣
-    request (comp 8 0 0) 1 2 4261412864 0 gives declined 34 0 ∣
+    requestFor (comp 8 0 0) 1 2 4261412864 0 gives declined 34 0 ∣
     end
 
 abbrev pub results : Cases → List Writing
@@ -145,9 +145,9 @@ abbrev pub expected : Cases → List Writing
 expected end = []
 expected (r gives w ∣ rest) = w ∷ expected rest
 
-pub marked : results cases ≡ expected cases
-unfolding table lowest bytes boxHeader box series wrapping BPCi BPC METH EnumCS colours markCount N definition bpcc specification cdef front setUp writeFields write
-marked = refl
+pub marked-cases : results cases ≡ expected cases
+unfolding table lowest bytes boxHeader box series wrapping BPCi BPC METH EnumCS colours markCount N writtenDefinition bpcc specification cdef front setUp writeFields write
+marked-cases = refl
 
 -- 77 and 85
 pub lengths : _≡_ {A = ℕ × ℕ} (length greyBoxes, length (greyBoxes ++ greyStream)) (77, 85)

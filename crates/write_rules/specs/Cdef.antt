@@ -7,7 +7,7 @@ use Rattle.box_kind.specs.declared.Jp2BoxType.the-variants.{CDEF}
 use Rattle.read_channels.specs.Definitions.{Def}
 use Rattle.write_rules.specs.declared.Fields.{Fields}
 use Rattle.write_rules.specs.Box.{box, series}
-use Rattle.write_rules.specs.Setup.{definition}
+use Rattle.write_rules.specs.Setup.{writtenDefinition}
 
 -- Cn, Typ and Asoc
 abbrev pub cdefEntry : Def → List ℕ
@@ -15,7 +15,7 @@ cdefEntry d = bytes 2 (d .channel) ++ bytes 2 (d .typ) ++ bytes 2 (d .asoc)
 
 -- the first n definitions
 abbrev pub cdefEntries : List ℕ → ℕ → ℕ → List ℕ
-cdefEntries comps many n = series (λ c. cdefEntry (definition comps many c)) n
+cdefEntries comps many n = series (λ c. cdefEntry (writtenDefinition comps many c)) n
 
 abbrev pub cdefContent : List ℕ → Fields → List ℕ
 cdefContent comps s = bytes 2 (s .definitions) ++ cdefEntries comps (s .colours) (s .definitions)

@@ -18,22 +18,22 @@ pub record Request : Type 0 where
   pub codestream : ℕ
   pub room : ℕ
 
-abbrev pub asked : List ℕ → ℕ → ℕ → ℕ → ℕ → ℕ → ℕ → List ℕ → ℕ → ℕ → Request
-asked comps count x0 y0 x1 y1 space profile codestream room =
+abbrev pub request : List ℕ → ℕ → ℕ → ℕ → ℕ → ℕ → ℕ → List ℕ → ℕ → ℕ → Request
+request comps count x0 y0 x1 y1 space profile codestream room =
     record { components = comps; count = count; x0 = x0; y0 = y0; x1 = x1; y1 = y1; space = space; profile = profile; codestream = codestream; room = room }
 
 -- number k of component c, in the order of the crate's opj_image_comp
-abbrev pub component : List ℕ → ℕ → ℕ → ℕ
-component comps c k = getD comps (numbersEach * c + k) 0
+abbrev pub componentNumber : List ℕ → ℕ → ℕ → ℕ
+componentNumber comps c k = getD comps (numbersEach * c + k) 0
 
 -- the bits of a sample
 abbrev pub precision : List ℕ → ℕ → ℕ
-precision comps c = component comps c prec
+precision comps c = componentNumber comps c prec
 
 -- 1 where samples have a sign
-abbrev pub sign : List ℕ → ℕ → ℕ
-sign comps c = component comps c sgnd
+abbrev pub signOf : List ℕ → ℕ → ℕ
+signOf comps c = componentNumber comps c sgnd
 
 -- not 0 for an opacity channel
-abbrev pub mark : List ℕ → ℕ → ℕ
-mark comps c = component comps c alpha
+abbrev pub alphaOf : List ℕ → ℕ → ℕ
+alphaOf comps c = componentNumber comps c alpha

@@ -11,7 +11,7 @@ use Rattle.read_file.specs.File.{codestream, read}
 use Rattle.read_rules.specs.Free.{profile}
 use Rattle.read_channels.specs.Definitions as order
 use Rattle.write_rules.specs.Request.{Request, precision}
-use Rattle.write_rules.specs.Setup.{varies, BPCi, C, UnkC, IPR, PREC, APPROX, definition, fieldsOf}
+use Rattle.write_rules.specs.Setup.{varies, BPCi, C, UnkC, IPR, PREC, APPROX, writtenDefinition, fieldsOf}
 use Rattle.write_rules.specs.FileType.{BR, MinV, CL}
 use Rattle.write_rules.specs.Writing.{written, write}
 
@@ -53,7 +53,7 @@ pub record ReadBack (r : Request) (f : List ℕ) (m : Jp2) : Type 0 where
   pub profile : profile f m ≡ r .profile
   -- definitions
   pub definitions : m .lists .cdef .count ≡ fieldsOf r .definitions
-  pub definition : (i : ℕ) → i < fieldsOf r .definitions → order.definition f (m .lists .cdef) i ≡ definition (r .components) (fieldsOf r .colours) i
+  pub writtenDefinition : (i : ℕ) → i < fieldsOf r .definitions → order.definition f (m .lists .cdef) i ≡ writtenDefinition (r .components) (fieldsOf r .colours) i
   -- no palette, and no mapping
   pub palette : m .lists .pclr .columns ≡ 0
   pub mappings : m .lists .cmap .count ≡ 0

@@ -10,7 +10,7 @@ use Rattle.box_number.specs.Lowest.{lowest, some}
 use Rattle.write_rules.specs.declared.Fields.{Fields}
 use Rattle.write_rules.specs.declared.Encoder.{Encoder}
 use Rattle.write_rules.specs.declared.Encoder.the-variants.{Ready, Refused}
-use Rattle.write_rules.specs.Request.{Request, precision, sign, mark}
+use Rattle.write_rules.specs.Request.{Request, precision, signOf, alphaOf}
 
 -- a minus b, wrapping at 2^32
 unfoldable pub wrapping : ℕ → ℕ → ℕ
@@ -25,7 +25,7 @@ WIDTH r = wrapping (r .x1) (r .x0)
 
 -- I.5.3.2: of component c, its bits less 1, and its sign as the top bit; a precision of 0 is refused (32)
 unfoldable pub BPCi : List ℕ → ℕ → ℕ
-BPCi comps c = precision comps c - 1 + 128 * sign comps c
+BPCi comps c = precision comps c - 1 + 128 * signOf comps c
 
 -- BPC where the components have not the same number of bits: a bpcc follows
 abbrev pub varies : ℕ
@@ -88,11 +88,11 @@ colours enumcs = table (enumcs =? sRGB or enumcs =? sYCC ⇒ 3 ∣ enumcs =? gre
 -- the count of marked components among the first n
 unfoldable pub markCount : List ℕ → ℕ → ℕ
 markCount comps zero = 0
-markCount comps (suc n) = table (mark comps n ≠? 0 ⇒ suc (markCount comps n) ∣ otherwise (markCount comps n))
+markCount comps (suc n) = table (alphaOf comps n ≠? 0 ⇒ suc (markCount comps n) ∣ otherwise (markCount comps n))
 
 -- the first component that is marked
 abbrev pub opacity : List ℕ → ℕ → ℕ
-opacity comps count = lowest (λ c. mark comps c ≠? 0) count
+opacity comps count = lowest (λ c. alphaOf comps c ≠? 0) count
 
 -- I.5.3.6: the count of definitions. Where exactly one component is marked, the colours are known and it is none of them, all components are defined; else none is, and there is no box
 -- (difference 26).
@@ -118,11 +118,11 @@ abbrev pub wholePicture : ℕ
 wholePicture = 0
 
 -- definition c, of channel c: colour c + 1; the opacity of the whole picture, whatever the mark (difference 27); or a channel of which nothing is said
-unfoldable pub definition : List ℕ → ℕ → ℕ → Def
-definition comps many c =
+unfoldable pub writtenDefinition : List ℕ → ℕ → ℕ → Def
+writtenDefinition comps many c =
     table
     (c <? many ⇒ def c colourChannel (c + 1)
-    ∣ mark comps c ≠? 0 ⇒ def c opacityChannel wholePicture
+    ∣ alphaOf comps c ≠? 0 ⇒ def c opacityChannel wholePicture
     ∣ otherwise (def c unspecified unspecified))
 
 -- the fields of a request
@@ -148,7 +148,7 @@ mostBits = 38
 
 -- 32: a precision that is not 1 to 38, or a sign that is not 0 or 1
 abbrev pub ill : List ℕ → ℕ → Test
-ill comps c = precision comps c =? 0 or mostBits <? precision comps c or 1 <? sign comps c
+ill comps c = precision comps c =? 0 or mostBits <? precision comps c or 1 <? signOf comps c
 
 -- numbers 31, 29 and 32, in that order, or the fields
 unfoldable pub setUp : Request → Encoder

@@ -6,10 +6,10 @@ use mathlib.Core.Path.{_≡_}
 use mathlib.Core.List.{List}
 use Rattle.box_number.specs.Table.{_≠?_, otherwise, _⇒_∣_, table}
 use Rattle.box_number.proofs.Rows.{row, each}
-use Rattle.write_rules.specs.Request.{mark}
+use Rattle.write_rules.specs.Request.{alphaOf}
 use Rattle.write_rules.specs.Setup.{markCount}
 
-module _ (comps : List ℕ) (n : ℕ) {k : ℕ} (e : k ≡ table (mark comps n ≠? 0 ⇒ 1 ∣ otherwise 0)) where
+module _ (comps : List ℕ) (n : ℕ) {k : ℕ} (e : k ≡ table (alphaOf comps n ≠? 0 ⇒ 1 ∣ otherwise 0)) where
   -- a component counts once at most
   pub once : k ≤ 1
   once = each (λ (x : ℕ). k ≡ x → k ≤ 1) _ ((λ _ i. omega arith), λ _ i. omega arith) e

@@ -4,7 +4,7 @@ ghost use mathlib.Core.Bool.{false};
 ghost use Rattle.box_number.specs.Table.{_≠?_, otherwise, _⇒_∣_, holds, table};
 ghost use Rattle.box_number.proofs.Rows.{Says};
 ghost use Rattle.box_number.specs.Lowest.{lowest};
-ghost use Rattle.write_rules.specs.Request.{asked, mark};
+ghost use Rattle.write_rules.specs.Request.{request, alphaOf};
 ghost use Rattle.write_rules.specs.Setup.{otherBits, BPC, METH, EnumCS, colours, markCount, opacity, N, ill, setUp};
 use read_record::ALPHA;
 use read_record::COMPONENT_NUMBERS;
@@ -139,7 +139,7 @@ fn mark_count(comps: &[u32], count: u32) -> u32
 
 // 1 where component c is marked, else 0.
 fn is_marked(comps: &[u32], c: u32) -> u32
-    ensures { λ r. ⌜ r ≡ table (mark (now (comps .entry)) c ≠? 0 ⇒ 1 ∣ otherwise 0) ⌝ }
+    ensures { λ r. ⌜ r ≡ table (alphaOf (now (comps .entry)) c ≠? 0 ⇒ 1 ∣ otherwise 0) ⌝ }
 {
     if read_record::component(comps, c, ALPHA) != 0 {
         return 1;
@@ -188,7 +188,7 @@ pub fn opj_jp2_setup_encoder(
     space: u32,
     profile: &[u8],
 ) -> Encoder
-    ensures { λ r. ⌜ r ≡ setUp (asked (now (comps .entry)) count x0 y0 x1 y1 space (now (profile .entry)) 0 0) ⌝ }
+    ensures { λ r. ⌜ r ≡ setUp (request (now (comps .entry)) count x0 y0 x1 y1 space (now (profile .entry)) 0 0) ⌝ }
 {
     if count == 0 {
         return Encoder::Refused(31, 0);

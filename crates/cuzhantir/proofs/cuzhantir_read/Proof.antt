@@ -5,7 +5,7 @@ use lib.ListN.{length}
 use Rattle.box_number.specs.Number.{placed}
 use Rattle.read_file.specs.declared.Reading.{Reading}
 use Rattle.export_rules.specs.Places.{readingLength}
-use Rattle.export_rules.specs.Numbers.{numbers, number}
+use Rattle.export_rules.specs.Numbers.{numbers, refusalNumber}
 use Rattle.export_rules.proofs.Room.{short, long}
 use Rattle.cuzhantir.proofs.Giving.{length-answer, room-first, room-last, all}
 use Rattle.cuzhantir.proofs.cuzhantir_read.Statement.{statement}
@@ -83,7 +83,7 @@ returns-2 c =
     let h = c .before .before .before .before .before .before .before .before .before .before .before .before .before .before .before .before .before .before .before .before .before .before .before .before .before .before .before .before .before .if1 .left in
     let e = c .before .before .before .before .before .before .before .before .before .before .before .before .before .before .before .before .before .before .before .before .before .before .before .before .before .before .before .before .read-file .ensures in
     let given = all d r h (c .before .before .before .before .before .before .before .before .before .before .before .before .before .before .before .before .before .before .before .before .before .before .before .answer-numbers .ensures) (c .before .before .before .before .before .before .before .before .before .before .before .before .before .before .before .before .before .before .before .before .before .image-numbers .ensures) (c .before .before .before .before .before .before .before .before .before .before .before .before .before .before .before .before .before .before .before .colour-numbers .ensures) (c .before .before .before .before .before .before .before .before .before .type-numbers .ensures) (c .before .before .before .before .before .before .before .list-numbers .ensures) (c .before .before .before .before .before .status-numbers .ensures) (c .before .before .before .before .before .before .before .before .before .before .before .before .before .before .before .before .before .put-three .ensures) (c .before .before .before .put-three2 .ensures) in
-    (long readingLength d _ _ h (c .answer-number .ensures ∙ ap (λ (x : Reading). number (x .answer)) e), long readingLength d _ _ h (given ∙ ap (λ (x : Reading). placed d 0 (numbers x)) e))
+    (long readingLength d _ _ h (c .answer-number .ensures ∙ ap (λ (x : Reading). refusalNumber (x .answer)) e), long readingLength d _ _ h (given ∙ ap (λ (x : Reading). placed d 0 (numbers x)) e))
 
 pub cuzhantir-read-spec : {M : Type 1} → statement M
 cuzhantir-read-spec =

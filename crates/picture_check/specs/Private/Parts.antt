@@ -10,12 +10,12 @@ use Rattle.box_number.specs.Lowest.{some}
 use Rattle.picture_rules.specs.Image.{mostComponents}
 
 -- a list of elements of the given size lies in f, where it has any
-abbrev pub Inside : ℕ → List ℕ → Span → Type 0
-Inside size f l = 0 < l .count → l .place + size * l .count ≤ length f
+abbrev pub ListInside : ℕ → List ℕ → Span → Type 0
+ListInside size f l = 0 < l .count → l .place + size * l .count ≤ length f
 
 -- channel c's mark after the first n definitions: 1 where one of them names it, else 0
-unfoldable pub mark : List ℕ → Span → ℕ → ℕ → ℕ
-mark f l n c = table (some (λ j. Cn f l j =? c) n ⇒ 1 ∣ otherwise 0)
+unfoldable pub seenAfter : List ℕ → Span → ℕ → ℕ → ℕ
+seenAfter f l n c = table (some (λ j. Cn f l j =? c) n ⇒ 1 ∣ otherwise 0)
 
 -- channel c, from 1 up, has no mark
 abbrev pub unmarked : List ℕ → ℕ → Test
@@ -23,12 +23,12 @@ unmarked seen c = 0 <? c and getD seen c 0 =? 0
 
 -- the definitions lie in f and name channels that have a place in a list of marks, none of which is set yet
 pub record Markable (f : List ℕ) (l : Span) (seen : List ℕ) : Type 0 where
-  pub inside : Inside 6 f l
+  pub inside : ListInside 6 f l
   pub within : (j : ℕ) → j < l .count → Cn f l j < length seen
   pub blank : (c : ℕ) → getD seen c 0 ≡ 0
 
 -- the definitions lie in f and name channels below k, of which there are few enough
 pub record Named (f : List ℕ) (l : Span) (k : ℕ) : Type 0 where
-  pub inside : Inside 6 f l
+  pub inside : ListInside 6 f l
   pub below : (j : ℕ) → j < l .count → Cn f l j < k
   pub most : k ≤ mostComponents

@@ -12,14 +12,14 @@ use Rattle.read_record.specs.declared.Jp2.{Jp2}
 use Rattle.read_record.specs.Record.{blank, withCmap}
 use Rattle.read_record.specs.Component.{numbersEach}
 use Rattle.picture_rules.specs.Flat.{flat}
-use Rattle.picture_rules.specs.Image.{Image, image, listed, first, none, mostSamples, size}
+use Rattle.picture_rules.specs.Image.{Image, image, listed, first, noData, mostSamples, size}
 use Rattle.picture_rules.specs.Channels.{channels}
 use Rattle.picture_rules.specs.Samples.{packed, startOf}
 use Rattle.picture_rules.specs.Check.{mismapped}
 use Rattle.picture_rules.specs.Finish.{outsideLists, outsideFile, expandedFrom, expanded}
 use Rattle.picture_planes.specs.declared.Column.{Column}
 use Rattle.picture_planes.specs.Column.{noColumn, picked}
-use Rattle.picture_planes.specs.Plane.{plane}
+use Rattle.picture_planes.specs.Plane.{samplesOf}
 
 -- a record with mappings and nothing else
 abbrev pub mappings : Span → Jp2
@@ -35,12 +35,12 @@ valueBy s k typ v = table (typ =? 1 ⇒ picked s k v ∣ otherwise v)
 
 -- and of all samples of its component r
 abbrev pub samplesAt : List ℕ → Column → List ℕ → List ℤ → ℕ → ℕ → List ℤ
-samplesAt s k comps samples r typ = map (valueBy s k typ) (plane samples (first (listed comps) r) (size (listed comps) r))
+samplesAt s k comps samples r typ = map (valueBy s k typ) (samplesOf samples (first (listed comps) r) (size (listed comps) r))
 
 -- a channel can be packed at a place: its column exists where it has one, its component's samples lie in their list, and there is room
 pub record Packable (k : Column) (comps : List ℕ) (samples : List ℤ) (r typ room at : ℕ) : Type 0 where
   pub column : typ ≡ 1 → Says false (noColumn k)
-  pub inside : (first (listed comps) r ≡ none → ⊥) → first (listed comps) r + size (listed comps) r ≤ length samples
+  pub inside : (first (listed comps) r ≡ noData → ⊥) → first (listed comps) r + size (listed comps) r ≤ length samples
   pub fits : at + size (listed comps) r ≤ room
 
 -- 29 and 27 have been tested

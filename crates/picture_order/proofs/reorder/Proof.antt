@@ -7,7 +7,7 @@ use borrow.Author.Needs.{needs}
 use lib.ListN.{length}
 use Rattle.read_channels.specs.Definitions.{definitionsTo}
 use Rattle.picture_rules.specs.Order.{run as runOf, arranged}
-use Rattle.picture_order.specs.Flat.{numberOf}
+use Rattle.picture_order.specs.Flat.{numberAt}
 use Rattle.picture_order.specs.Private.Steps.{Positioned, Agree, listOf}
 use Rattle.picture_order.proofs.Agreement.{positioned-start, agree-start}
 use Rattle.picture_order.proofs.Listing.{agree-more, whole}
@@ -17,7 +17,7 @@ use Rattle.picture_order.proofs.reorder.Tie as tie
 abbrev Inv-loop : tie.InvT-loop
 Inv-loop f run recs₀ positions₀ channels₀ k₀ recs positions channels k =
     (k ≤ run .count) × (length recs ≡ length recs₀) × (length positions ≡ 16384) × (length channels ≡ 16384) × Positioned (run .n) positions channels
-    × Agree (run .n) recs positions (arranged (run .n) (definitionsTo f (listOf run) k) (numberOf recs₀))
+    × Agree (run .n) recs positions (arranged (run .n) (definitionsTo f (listOf run) k) (numberAt recs₀))
 
 abbrev μ-loop : tie.MeasureT-loop
 μ-loop f run recs₀ positions₀ channels₀ k₀ recs positions channels k = run .count - k
@@ -75,7 +75,7 @@ loop-again c =
       d .kept .1 .0 ∙ l .inv .2,
       d .kept .1 .1 .0 ∙ l .inv .3,
       d .ensures .positioned,
-      agree-more (b .args .f .now) (listOf (b .args .run)) (b .args .run .n) (l .k) (numberOf (b .args .recs .now)) _ _ (d .ensures .does _ (l .inv .5)),
+      agree-more (b .args .f .now) (listOf (b .args .run)) (b .args .run .n) (l .k) (numberAt (b .args .recs .now)) _ _ (d .ensures .does _ (l .inv .5)),
     )
 
 same-length : tie.Need-same-length Inv-loop μ-loop
@@ -87,7 +87,7 @@ returns c =
     let l = c .before .before .loop in
     let e : l .k ≡ b .args .run .count = omega arith in
     whole (b .args .f .now) (listOf (b .args .run)) (b .args .run .n) (b .args .recs .now) (l .recs) (l .inv .1) (b .pre .2)
-    (subst (λ i. Agree (b .args .run .n) (l .recs) (l .positions) (arranged (b .args .run .n) (definitionsTo (b .args .f .now) (listOf (b .args .run)) i) (numberOf (b .args .recs .now)))) e (l .inv .5) .says)
+    (subst (λ i. Agree (b .args .run .n) (l .recs) (l .positions) (arranged (b .args .run .n) (definitionsTo (b .args .f .now) (listOf (b .args .run)) i) (numberAt (b .args .recs .now)))) e (l .inv .5) .says)
 
 pub reorder-spec : {M : Type 1} → statement M
 reorder-spec =

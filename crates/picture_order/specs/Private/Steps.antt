@@ -8,13 +8,13 @@ use Rattle.read_record.specs.declared.Span.{Span}
 use Rattle.read_record.specs.Component.{alpha, numbersEach, mostComponents}
 use Rattle.read_channels.specs.Definitions.{Def, definition}
 use Rattle.picture_rules.specs.Order.{Arranged, exchange, define}
-use Rattle.picture_order.specs.Flat.{numberOf}
+use Rattle.picture_order.specs.Flat.{numberAt}
 use Rattle.picture_order.specs.declared.positions.Ask.{Ask}
 use Rattle.picture_order.specs.declared.task.Run.{Run}
 
 -- m is l with the records p and q exchanged
 abbrev pub Exchanged : ℕ → ℕ → List ℕ → List ℕ → Type 0
-Exchanged p q l m = (r k : ℕ) → k < numbersEach → numberOf m r k ≡ numberOf l (exchange p q r) k
+Exchanged p q l m = (r k : ℕ) → k < numbersEach → numberAt m r k ≡ numberAt l (exchange p q r) k
 
 -- l with a mark on the record p, or as it is
 abbrev pub markIf : List ℕ → ℕ → ℕ → Bool → List ℕ
@@ -39,7 +39,7 @@ Started n positions channels = Positioned n positions channels × ((c : ℕ) →
 pub record Agree (n : ℕ) (recs positions : List ℕ) (a : Arranged) : Type 0 where
   pub located : (c : ℕ) → c < n → a .seat c ≡ getD positions c 0
   pub past : (c : ℕ) → n ≤ c → n ≤ a .seat c
-  pub says : (r k : ℕ) → k < numbersEach → a .records r k ≡ numberOf recs r k
+  pub says : (r k : ℕ) → k < numbersEach → a .records r k ≡ numberAt recs r k
 
 -- the definition list of a run
 abbrev pub listOf : Run → Span

@@ -8,7 +8,7 @@ use lib.ListN.{length}
 use Rattle.box_number.specs.Number.{liesOutside}
 use Rattle.box_number.proofs.Answers.{said}
 use Rattle.box_number.proofs.Rows.{row}
-use Rattle.picture_planes.specs.Written.{done, written}
+use Rattle.picture_planes.specs.Written.{isWritten, writtenUnless}
 use Rattle.picture_planes.proofs.copy_plane.Statement.{statement}
 use Rattle.picture_planes.proofs.copy_plane.Tie as tie
 
@@ -16,7 +16,7 @@ lies-outside-requires : tie.Need-lies-outside-requires
 lies-outside-requires c κs = tt
 
 returns : tie.Need-returns
-unfolding done written
+unfolding isWritten writtenUnless
 returns c =
     let a = c .before .before .args in
     let h = said true (liesOutside (length (a .src .now)) (a .from) (a .n)) (sym (c .if1 .taken) ∙ c .before .lies-outside .ensures) in
@@ -26,7 +26,7 @@ lies-outside-requires-2 : tie.Need-lies-outside-requires-2
 lies-outside-requires-2 c κs = tt
 
 returns-2 : tie.Need-returns-2
-unfolding done written
+unfolding isWritten writtenUnless
 returns-2 c =
     let a = c .before .before .before .before .args in
     let h = said true (liesOutside (length (a .dst .now)) (a .at) (a .n)) (sym (c .if2 .taken) ∙ c .before .lies-outside2 .ensures) in
@@ -43,7 +43,7 @@ same-length : tie.Need-same-length
 same-length c = search needs
 
 returns-3 : tie.Need-returns-3
-unfolding done written
+unfolding isWritten writtenUnless
 returns-3 c =
     let r = copy-inside-requires (c .before .before) (c .before .copy-inside .lifetimes) in
     (row 1 _ (r, tt) refl, row 1 _ (r, tt) (c .before .copy-inside .ensures))

@@ -34,12 +34,12 @@ pub record Heads (at : ℕ) (c : List ℕ) (h : Jp2BoxHeader) : Type 0 where
   pub most : boxLength c ≤ length c
   pub room : at + length c ≤ largest
 
-abbrev pub box : Jp2BoxType → ℕ → ℕ → List ℕ → Box
-box kind place start content = record { kind = kind; place = place; start = start; content = content }
+abbrev pub boxWith : Jp2BoxType → ℕ → ℕ → List ℕ → Box
+boxWith kind place start content = record { kind = kind; place = place; start = start; content = content }
 
 -- a box whose content is not read
 abbrev pub boxAt : Jp2BoxType → ℕ → ℕ → Box
-boxAt kind place start = box kind place start []
+boxAt kind place start = boxWith kind place start []
 
 -- a kind of box that is read, in the file or in jp2h
 abbrev pub isRead : Jp2BoxType → Test
@@ -50,5 +50,5 @@ abbrev pub isEarly : Jp2BoxType → ℕ → Test
 isEarly kind state = tag kind ≠? tag JP2H and bit 4 state =? 0
 
 -- jp2h, or a box of it outside jp2h
-unfoldable pub header : Jp2BoxType → ℕ → ℕ → List ℕ → Jp2 → Result
-header kind place start c k = table (isEarly kind (k .status .state) ⇒ accepted (withUnknown k) ∣ otherwise (headerBox kind place start c k))
+unfoldable pub headerOrSkipped : Jp2BoxType → ℕ → ℕ → List ℕ → Jp2 → Result
+headerOrSkipped kind place start c k = table (isEarly kind (k .status .state) ⇒ accepted (withUnknown k) ∣ otherwise (headerBox kind place start c k))

@@ -3,7 +3,7 @@
 use mathlib.Core.Path.{refl, ap}
 use lib.ListN.{set}
 use Rattle.box_number.proofs.Rows.{row}
-use Rattle.test_lines.specs.Lines.{counted}
+use Rattle.test_lines.specs.Lines.{tallied}
 use borrow.Author.Needs.{needs}
 use Rattle.test_lines.proofs.count.Statement.{statement}
 use Rattle.test_lines.proofs.count.Tie as tie
@@ -27,11 +27,11 @@ same-length : tie.Need-same-length
 same-length c = search needs
 
 returns : tie.Need-returns
-unfolding counted
+unfolding tallied
 returns c = let a = c .before .before .before .before .args in row 0 _ (c .before .before .if1 .taken) (ap (λ n. set (a .tally .now) (a .k) n) (c .wrapping-add-usize .ensures))
 
 returns-2 : tie.Need-returns-2
-unfolding counted
+unfolding tallied
 returns-2 c = row 1 _ (c .if1 .left, tt) refl
 
 pub count-spec : {M : Type 1} → statement M

@@ -2,7 +2,7 @@
 -- Assumes nothing.
 use native.Mathlib.Omega.{arith}
 use lib.ListN.{length}
-use Rattle.write_rules.specs.Request.{asked}
+use Rattle.write_rules.specs.Request.{request}
 use Rattle.trial_round_trip.proofs.Backs.{part-is, comes-back}
 use borrow.Author.Needs.{needs}
 use Rattle.trial_round_trip.proofs.write_and_read.Statement.{statement}
@@ -32,7 +32,7 @@ returns c =
     let w = c .before .before .before .before .before .before .write-boxes in
     let n = c .before .before .before .bytes-of in
     let is = part-is (w .result) _ (n .ensures) (c .before .part .ensures) (c .read-file .ensures) in
-    (w .ensures .0, (w .ensures .1, (is, comes-back (asked (a .comps .now) (a .count) (a .x0) (a .y0) (a .x1) (a .y1) (a .space) (a .profile .now) (a .codestream) (length (a .d .now))) (a .d .now) (omega (arith, n .ensures)) (w .ensures .0) (w .ensures .1) is)))
+    (w .ensures .0, (w .ensures .1, (is, comes-back (request (a .comps .now) (a .count) (a .x0) (a .y0) (a .x1) (a .y1) (a .space) (a .profile .now) (a .codestream) (length (a .d .now))) (a .d .now) (omega (arith, n .ensures)) (w .ensures .0) (w .ensures .1) is)))
 
 pub write-and-read-spec : {M : Type 1} → statement M
 write-and-read-spec =

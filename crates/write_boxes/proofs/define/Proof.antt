@@ -5,7 +5,7 @@ use mathlib.Core.Path.{refl}
 use mathlib.Core.Path.{ap, _∙_}
 use Rattle.box_number.proofs.Rows.{row}
 use Rattle.box_number.specs.Number.{placed}
-use Rattle.write_rules.specs.Setup.{definition}
+use Rattle.write_rules.specs.Setup.{writtenDefinition}
 use Rattle.write_rules.specs.Cdef.{cdefEntry}
 use borrow.Author.Needs.{needs}
 use Rattle.write_boxes.proofs.define.Statement.{statement}
@@ -21,7 +21,7 @@ same-length : tie.Need-same-length
 same-length c = search needs
 
 returns : tie.Need-returns
-unfolding definition
+unfolding writtenDefinition
 returns c =
     let a = c .before .before .before .before .before .before .before .args in
     let e = c .before .before .put-definition .ensures in
@@ -37,7 +37,7 @@ same-length-2 : tie.Need-same-length-2
 same-length-2 c = search needs
 
 returns-2 : tie.Need-returns-2
-unfolding definition
+unfolding writtenDefinition
 returns-2 c =
     let a = c .before .before .before .before .before .before .before .before .before .args in
     let e = c .before .before .put-definition2 .ensures in
@@ -50,7 +50,7 @@ same-length-3 : tie.Need-same-length-3
 same-length-3 c = search needs
 
 returns-3 : tie.Need-returns-3
-unfolding definition
+unfolding writtenDefinition
 returns-3 c =
     let a = c .before .before .before .before .before .before .before .before .before .args in
     let e = c .before .before .put-definition3 .ensures in

@@ -6,14 +6,14 @@ use mathlib.Core.Path.{_≡_, refl, ap}
 use mathlib.Core.List.{List, _++_}
 use native.Mathlib.Numerals.{add-one}
 use Rattle.write_rules.specs.Box.{series}
-use Rattle.write_rules.specs.Setup.{definition}
+use Rattle.write_rules.specs.Setup.{writtenDefinition}
 use Rattle.write_rules.specs.Cdef.{cdefEntry, cdefEntries}
 use Rattle.write_rules.proofs.Lengths.{length-cdefEntry}
 use Rattle.box_number.proofs.Pieces.{Put, none, same, put-length, piece, whole}
 use Rattle.write_boxes.proofs.put_definitions.Statement.{statement}
 use Rattle.write_boxes.proofs.put_definitions.Tie as tie
 
-one-more : (comps : List ℕ) (colours c : ℕ) → cdefEntries comps colours c ++ cdefEntry (definition comps colours c) ≡ cdefEntries comps colours (c + 1)
+one-more : (comps : List ℕ) (colours c : ℕ) → cdefEntries comps colours c ++ cdefEntry (writtenDefinition comps colours c) ≡ cdefEntries comps colours (c + 1)
 unfolding series
 one-more comps colours c = rw (add-one c)
 
@@ -41,7 +41,7 @@ loop-again c =
     let b = c .before .before .before .before .before .before .before .before in
     let a = b .args in
     let l = c .before .before .before .before .before .loop in
-    (omega arith, same (a .d .now) (a .at) (one-more (a .comps .now) (a .colours) (l .c)) (omega arith) (piece (a .d .now) (a .at) (cdefEntries (a .comps .now) (a .colours) (l .c)) (6 * l .c) (l .inv .1) (cdefEntry (definition (a .comps .now) (a .colours) (l .c))) 6 (length-cdefEntry (definition (a .comps .now) (a .colours) (l .c))) (omega (arith, b .pre .0)) (c .before .before .define .ensures)))
+    (omega arith, same (a .d .now) (a .at) (one-more (a .comps .now) (a .colours) (l .c)) (omega arith) (piece (a .d .now) (a .at) (cdefEntries (a .comps .now) (a .colours) (l .c)) (6 * l .c) (l .inv .1) (cdefEntry (writtenDefinition (a .comps .now) (a .colours) (l .c))) 6 (length-cdefEntry (writtenDefinition (a .comps .now) (a .colours) (l .c))) (omega (arith, b .pre .0)) (c .before .before .define .ensures)))
 
 same-length : tie.Need-same-length Inv-loop μ-loop
 same-length c = let b = c .before .before .before .before in put-length (b .args .d .now) (b .args .at) (c .before .loop .inv .1) (omega (arith, b .pre .0))

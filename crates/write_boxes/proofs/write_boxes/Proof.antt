@@ -2,7 +2,7 @@
 -- Assumes nothing.
 use lib.ListN.{length}
 use Rattle.write_rules.specs.Writing.{write}
-use Rattle.write_rules.specs.Request.{asked}
+use Rattle.write_rules.specs.Request.{request}
 use Rattle.write_boxes.proofs.Answers.{declined-done}
 use Rattle.write_boxes.proofs.Requests.{setup-refused, setup-ready}
 use borrow.Author.Needs.{needs}
@@ -25,7 +25,7 @@ write-fields-requires : tie.Need-write-fields-requires
 write-fields-requires c κs = let a = c .before .before .before .before .before .before .before .before .args in setup-ready (a .comps .now) (a .count) (a .x0) (a .y0) (a .x1) (a .y1) (a .space) (a .profile .now) (a .codestream) (length (a .d .now)) (c .before .before .before .before .opj-jp2-setup-encoder .ensures) (c .before .before .s .given .1) .1
 
 returns : tie.Need-returns
-returns c = let a = c .before .before .before .before .before .before .before .args in declined-done (write (asked (a .comps .now) (a .count) (a .x0) (a .y0) (a .x1) (a .y1) (a .space) (a .profile .now) (a .codestream) (length (a .d .now)))) (a .d .now) (setup-refused (a .comps .now) (a .count) (a .x0) (a .y0) (a .x1) (a .y1) (a .space) (a .profile .now) (a .codestream) (length (a .d .now)) (c .before .before .before .opj-jp2-setup-encoder .ensures) (c .before .number .given .1))
+returns c = let a = c .before .before .before .before .before .before .before .args in declined-done (write (request (a .comps .now) (a .count) (a .x0) (a .y0) (a .x1) (a .y1) (a .space) (a .profile .now) (a .codestream) (length (a .d .now)))) (a .d .now) (setup-refused (a .comps .now) (a .count) (a .x0) (a .y0) (a .x1) (a .y1) (a .space) (a .profile .now) (a .codestream) (length (a .d .now)) (c .before .before .before .opj-jp2-setup-encoder .ensures) (c .before .number .given .1))
 
 same-length : tie.Need-same-length
 same-length c = search needs

@@ -7,12 +7,12 @@ use borrow.Author.Count.{below-more}
 use Rattle.box_number.specs.Table.{_≠?_}
 use Rattle.box_number.proofs.Rows.{Says}
 use Rattle.box_number.proofs.Indices.{none-is, lowest-first}
-use Rattle.write_rules.specs.Request.{mark}
+use Rattle.write_rules.specs.Request.{alphaOf}
 use Rattle.write_setup.proofs.first_marked.Statement.{statement}
 use Rattle.write_setup.proofs.first_marked.Tie as tie
 
 abbrev Inv-loop : tie.InvT-loop
-Inv-loop comps count c₀ c = (c ≤ count) × ((i : ℕ) → i < c → Says false (mark comps i ≠? 0))
+Inv-loop comps count c₀ c = (c ≤ count) × ((i : ℕ) → i < c → Says false (alphaOf comps i ≠? 0))
 
 abbrev μ-loop : tie.MeasureT-loop
 μ-loop comps count c₀ c = count - c
@@ -27,7 +27,7 @@ returns : tie.Need-returns Inv-loop μ-loop
 returns c =
     let a = c .before .before .before .before .before .args in
     let l = c .before .before .before .loop in
-    lowest-first (λ i. mark (a .comps .now) i ≠? 0) (l .c) (a .count) (l .inv .1) (λ z. omega arith) (omega arith)
+    lowest-first (λ i. alphaOf (a .comps .now) i ≠? 0) (l .c) (a .count) (l .inv .1) (λ z. omega arith) (omega arith)
 
 add-c : tie.Need-add-c Inv-loop μ-loop
 add-c c = omega arith
@@ -39,10 +39,10 @@ loop-again : tie.Need-loop-again Inv-loop μ-loop
 loop-again c =
     let a = c .before .before .before .before .before .args in
     let l = c .before .before .before .loop in
-    (omega arith, below-more (λ i. Says false (mark (a .comps .now) i ≠? 0)) (l .c) (l .inv .1) (omega arith))
+    (omega arith, below-more (λ i. Says false (alphaOf (a .comps .now) i ≠? 0)) (l .c) (l .inv .1) (omega arith))
 
 returns-2 : tie.Need-returns-2 Inv-loop μ-loop
-returns-2 c = let a = c .before .before .before .args in none-is (λ i. mark (a .comps .now) i ≠? 0) (a .count) (λ i h. c .before .loop .inv .1 i (omega arith))
+returns-2 c = let a = c .before .before .before .args in none-is (λ i. alphaOf (a .comps .now) i ≠? 0) (a .count) (λ i h. c .before .loop .inv .1 i (omega arith))
 
 pub first-marked-spec : {M : Type 1} → statement M
 first-marked-spec =

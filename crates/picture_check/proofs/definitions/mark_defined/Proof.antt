@@ -5,13 +5,13 @@ use Prim.Native.Nat.{ℕ, _-_, _≤_, _<_}
 use mathlib.Core.Path.{_≡_, refl, _∙_}
 use lib.ListN.{length, getD, length-set}
 use Rattle.read_record.specs.Record.{span}
-use Rattle.picture_check.specs.Private.Parts.{mark}
+use Rattle.picture_check.specs.Private.Parts.{seenAfter}
 use Rattle.picture_check.proofs.Marks.{mark-none, marks-next}
 use Rattle.picture_check.proofs.definitions.mark_defined.Statement.{statement}
 use Rattle.picture_check.proofs.definitions.mark_defined.Tie as tie
 
 abbrev Inv-loop : tie.InvT-loop
-Inv-loop f seen₀ place count j₀ seen j = (j ≤ count) × (length seen ≡ length seen₀) × ((x : ℕ) → x < length seen → getD seen x 0 ≡ mark f (span place count) j x)
+Inv-loop f seen₀ place count j₀ seen j = (j ≤ count) × (length seen ≡ length seen₀) × ((x : ℕ) → x < length seen → getD seen x 0 ≡ seenAfter f (span place count) j x)
 
 abbrev μ-loop : tie.MeasureT-loop
 μ-loop f seen₀ place count j₀ seen j = count - j

@@ -41,7 +41,7 @@ use denote.Triple.Table.{entered, cited}
 use denote.Triple.Walked.{says, needs, Stays, stay-slice, stay-dropped, gave-slice, walkOf, AllGo, goes-slice, goes-dropped, goes-gave-slice, Walks, ends-at, walked, walk-meets}
 use denote.Triple.Clauses.{ensured, lasts}
 use denote.Exit.{yes}
-use Rattle.picture_order.specs.Comps.{numbered, swapped, marked, markOf, none, asked}
+use Rattle.picture_order.specs.Comps.{numbered, swappedRecords, markedRecords, markOf, noRecord, afterAsk}
 use Rattle.picture_order.specs.Private.Steps.{Positioned, Decided, Stepped}
 use Rattle.picture_order.specs.declared.lent.Comp.{Comp}
 use Rattle.picture_order.specs.declared.positions.Ask.{Ask}
@@ -152,8 +152,8 @@ module _ {M : Type 1} (𝓤 : URA M) (H : Heap 𝓤) (A : Atoms 𝓤) (W : Given
   unit-typed : {v : Val} → v ≡ vunit → Holds (hasTy tyUnit v) × WT v
   unit-typed e = subst (λ (z : Val). Holds (hasTy tyUnit z) × WT z) (sym e) (tt, tt)
 
-  asked-long : (r : Ask) → length (asked r ys) ≡ m
-  asked-long r = length-set (swapped ys (r .i) (r .j)) (r .i) (markOf (getD (swapped ys (r .i) (r .j)) (r .i) none) (r .t) (r .on)) ∙ swapped-length ys (r .i) (r .j)
+  asked-long : (r : Ask) → length (afterAsk r ys) ≡ m
+  asked-long r = length-set (swappedRecords ys (r .i) (r .j)) (r .i) (markOf (getD (swappedRecords ys (r .i) (r .j)) (r .i) noRecord) (r .t) (r .on)) ∙ swapped-length ys (r .i) (r .j)
 
   -- ---- the covered call
   abbrev to-decide : Decide 𝓤 H A at-mem run .Ghost
@@ -179,12 +179,12 @@ module _ {M : Type 1} (𝓤 : URA M) (H : Heap 𝓤) (A : Atoms 𝓤) (W : Given
         qed W (‵ (flft (ν ∷ []) fullShare) ∷ ‵ (Own (ν ∷ []) δ l) ∷ []) ∵ says ! within $ nothing ! $ move ! (1 ∷ 0 ∷ []) $ join ! $ frame ! $ nothing ! $
         owned ! usize (Is usize) (uint-makes 𝓤 H A W w64) j _ (refl, fj) $ fjoin ! $ owned ! usize (Is usize) (uint-makes 𝓤 H A W w64) i _ (refl, fi) $ fjoin ! $ move ! (1 ∷ 0 ∷ []) $ fjoin ! $ done !
 
-    gives-swap : (v : Val) → ent 𝓤 (Swap 𝓤 H A at-mem run .post to-swap v) (H .⇛ (guard 𝓤 (v ≡ vunit) (sep 𝓤 (A .lft (ν ∷ []) fullShare) (sem 𝓤 H A (finally R δ (swapped l i j))))))
+    gives-swap : (v : Val) → ent 𝓤 (Swap 𝓤 H A at-mem run .post to-swap v) (H .⇛ (guard 𝓤 (v ≡ vunit) (sep 𝓤 (A .lft (ν ∷ []) fullShare) (sem 𝓤 H A (finally R δ (swappedRecords l i j))))))
     gives-swap v =
         qed W (raw (Swap 𝓤 H A at-mem run .post to-swap v) ∷ []) ∵ updating ! $
         use1 W (later (some (λ (r : Unit {0}). ((‵ (flft (ν ∷ []) fullShare) ⊛ ‵ ftrue) ⊛ ‵ (Nothing .own r (v ∷ []))) ⊛ raw (ensured 𝓤 H A swap.ended (swap.clauses 𝓤 H A at-mem run) (ν ∷ [], tt) (x δ l, (i, (j, tt))) tt r)))) (id⊢ 𝓤 _) $ await ! tt $ pick ! (λ r.
-        split ! $ move ! (1 ∷ []) $ use1 W (some (λ (zs : List Comp × (Unit {0} × (Unit {0} × Unit {0}))). ‵ (lasts swap.ended (ν ∷ [], tt) (x δ l, (i, (j, tt))) zs) ⊛ raw (fact 𝓤 (zs .0 ≡ swapped l i j)))) (id⊢ 𝓤 _) $ pick ! (λ zs.
-        split ! $ move ! (1 ∷ []) $ heard ! (zs .0 ≡ swapped l i j) (λ e. fsplit ! $ fsplit ! $ rewrite ! 0 (λ (l′ : List Comp). ‵ (finally R δ l′)) e refl $
+        split ! $ move ! (1 ∷ []) $ use1 W (some (λ (zs : List Comp × (Unit {0} × (Unit {0} × Unit {0}))). ‵ (lasts swap.ended (ν ∷ [], tt) (x δ l, (i, (j, tt))) zs) ⊛ raw (fact 𝓤 (zs .0 ≡ swappedRecords l i j)))) (id⊢ 𝓤 _) $ pick ! (λ zs.
+        split ! $ move ! (1 ∷ []) $ heard ! (zs .0 ≡ swappedRecords l i j) (λ e. fsplit ! $ fsplit ! $ rewrite ! 0 (λ (l′ : List Comp). ‵ (finally R δ l′)) e refl $
         move ! (3 ∷ []) $ split ! $ move ! (1 ∷ []) $ feqL ! (λ ev. at-once ! $ check ! (ap only ev) $ split ! $ keep ! (0 ∷ 2 ∷ []) $ done !))))
 
   module _ (l : List Comp) (i t : ℕ) (on : Bool) (ν : ℕ) (δ : GName) where
@@ -196,19 +196,19 @@ module _ {M : Type 1} (𝓤 : URA M) (H : Heap 𝓤) (A : Atoms 𝓤) (W : Given
         qed W (‵ (flft (ν ∷ []) fullShare) ∷ ‵ (Own (ν ∷ []) δ l) ∷ []) ∵ says ! within $ nothing ! $ move ! (1 ∷ 0 ∷ []) $ join ! $ frame ! $ nothing ! $ owned ! bool (Is bool) (bool-makes 𝓤 H A W) on _ fo $ fjoin ! $
         owned ! u16 (Is u16) (uint-makes 𝓤 H A W w16) t _ (refl, ft) $ fjoin ! $ owned ! usize (Is usize) (uint-makes 𝓤 H A W w64) i _ (refl, fi) $ fjoin ! $ move ! (1 ∷ 0 ∷ []) $ fjoin ! $ done !
 
-    gives-mark : (v : Val) → ent 𝓤 (Mark 𝓤 H A at-mem run .post to-mark v) (H .⇛ (guard 𝓤 (v ≡ vunit) (sep 𝓤 (A .lft (ν ∷ []) fullShare) (sem 𝓤 H A (finally R δ (marked l i t on))))))
+    gives-mark : (v : Val) → ent 𝓤 (Mark 𝓤 H A at-mem run .post to-mark v) (H .⇛ (guard 𝓤 (v ≡ vunit) (sep 𝓤 (A .lft (ν ∷ []) fullShare) (sem 𝓤 H A (finally R δ (markedRecords l i t on))))))
     gives-mark v =
         qed W (raw (Mark 𝓤 H A at-mem run .post to-mark v) ∷ []) ∵ updating ! $
         use1 W (later (some (λ (r : Unit {0}). ((‵ (flft (ν ∷ []) fullShare) ⊛ ‵ ftrue) ⊛ ‵ (Nothing .own r (v ∷ []))) ⊛ raw (ensured 𝓤 H A mark.ended (mark.clauses 𝓤 H A at-mem run) (ν ∷ [], tt) (x δ l, (i, (t, (on, tt)))) tt r)))) (id⊢ 𝓤 _) $ await ! tt $ pick ! (λ r.
-        split ! $ move ! (1 ∷ []) $ use1 W (some (λ (zs : List Comp × (Unit {0} × (Unit {0} × (Unit {0} × Unit {0})))). ‵ (lasts mark.ended (ν ∷ [], tt) (x δ l, (i, (t, (on, tt)))) zs) ⊛ raw (fact 𝓤 (zs .0 ≡ marked l i t on)))) (id⊢ 𝓤 _) $ pick ! (λ zs.
-        split ! $ move ! (1 ∷ []) $ heard ! (zs .0 ≡ marked l i t on) (λ e. fsplit ! $ fsplit ! $ rewrite ! 0 (λ (l′ : List Comp). ‵ (finally R δ l′)) e refl $
+        split ! $ move ! (1 ∷ []) $ use1 W (some (λ (zs : List Comp × (Unit {0} × (Unit {0} × (Unit {0} × Unit {0})))). ‵ (lasts mark.ended (ν ∷ [], tt) (x δ l, (i, (t, (on, tt)))) zs) ⊛ raw (fact 𝓤 (zs .0 ≡ markedRecords l i t on)))) (id⊢ 𝓤 _) $ pick ! (λ zs.
+        split ! $ move ! (1 ∷ []) $ heard ! (zs .0 ≡ markedRecords l i t on) (λ e. fsplit ! $ fsplit ! $ rewrite ! 0 (λ (l′ : List Comp). ‵ (finally R δ l′)) e refl $
         move ! (3 ∷ []) $ split ! $ move ! (1 ∷ []) $ feqL ! (λ ev. at-once ! $ check ! (ap only ev) $ split ! $ keep ! (0 ∷ 2 ∷ []) $ done !))))
 
-  exits : (r : Ask) (ws : Lasts) → Stepped (f .now) run₀ k (numbered ys) (positions .now) (numbered (asked r ys)) (ws .0) (ws .1 .0) → length (ws .0) ≡ length (positions .now) → length (ws .1 .0) ≡ length (channels .now)
-      → ent 𝓤 (⋆ 𝓤 H A (‵ (Own κ γ (asked r ys)) ∷ ‵ (flft κ q) ∷ (‵ (flft κ₁ q₁) ⊛ ‵ (flft κ₂ q₂) ⊛ ‵ (flft κ₃ q₃) ⊛ ‵ ftrue) ∷ ‵ (finally u32 (channels .name) (ws .1 .0)) ∷ ‵ (finally u32 (positions .name) (ws .0)) ∷ [])) (Post vunit)
+  exits : (r : Ask) (ws : Lasts) → Stepped (f .now) run₀ k (numbered ys) (positions .now) (numbered (afterAsk r ys)) (ws .0) (ws .1 .0) → length (ws .0) ≡ length (positions .now) → length (ws .1 .0) ≡ length (channels .now)
+      → ent 𝓤 (⋆ 𝓤 H A (‵ (Own κ γ (afterAsk r ys)) ∷ ‵ (flft κ q) ∷ (‵ (flft κ₁ q₁) ⊛ ‵ (flft κ₂ q₂) ⊛ ‵ (flft κ₃ q₃) ⊛ ‵ ftrue) ∷ ‵ (finally u32 (channels .name) (ws .1 .0)) ∷ ‵ (finally u32 (positions .name) (ws .0)) ∷ [])) (Post vunit)
   exits r ws e long₁ long₂ =
-      qed W (‵ (Own κ γ (asked r ys)) ∷ ‵ (flft κ q) ∷ (‵ (flft κ₁ q₁) ⊛ ‵ (flft κ₂ q₂) ⊛ ‵ (flft κ₃ q₃) ⊛ ‵ ftrue) ∷ ‵ (finally u32 (channels .name) (ws .1 .0)) ∷ ‵ (finally u32 (positions .name) (ws .0)) ∷ []) ∵
-      suffices ! _ (ends-at 𝓤 H A this.ended stayed (this.clauses 𝓤 H A at-mem run) W (((κ, (κ₁, (κ₂, (κ₃, tt)))), (q, (q₁, (q₂, (q₃, tt)))), tt, arg, at), tt) vunit tt (asked r ys, (ws .0, (ws .1 .0, (tt, (tt, (tt, tt)))))) (asked-long r, (long₁, (long₂, (tt, (tt, (tt, tt))))))) $ says ! e $
+      qed W (‵ (Own κ γ (afterAsk r ys)) ∷ ‵ (flft κ q) ∷ (‵ (flft κ₁ q₁) ⊛ ‵ (flft κ₂ q₂) ⊛ ‵ (flft κ₃ q₃) ⊛ ‵ ftrue) ∷ ‵ (finally u32 (channels .name) (ws .1 .0)) ∷ ‵ (finally u32 (positions .name) (ws .0)) ∷ []) ∵
+      suffices ! _ (ends-at 𝓤 H A this.ended stayed (this.clauses 𝓤 H A at-mem run) W (((κ, (κ₁, (κ₂, (κ₃, tt)))), (q, (q₁, (q₂, (q₃, tt)))), tt, arg, at), tt) vunit tt (afterAsk r ys, (ws .0, (ws .1 .0, (tt, (tt, (tt, tt)))))) (asked-long r, (long₁, (long₂, (tt, (tt, (tt, tt))))))) $ says ! e $
       move ! (1 ∷ 2 ∷ []) $ join ! $ frame ! $ nothing ! $ nothing ! $ fjoin ! $ nothing ! $ fjoin ! $ nothing ! $ fjoin ! $ move ! (2 ∷ 0 ∷ []) $ fjoin ! $ move ! (2 ∷ 0 ∷ []) $ fjoin ! $ move ! (1 ∷ 0 ∷ []) $ fjoin ! $ frame ! $
       feqI ! (List Val) (vunit ∷ []) (vunit ∷ []) refl $ done !
 
@@ -243,19 +243,19 @@ module _ {M : Type 1} (𝓤 : URA M) (H : Heap 𝓤) (A : Atoms 𝓤) (W : Given
         use2 W (later (some (λ (δ : GName). ‵ (Own (ν ∷ []) δ ys) ⊛ ‵ (LentAgain R κ (ν ∷ []) q γ b o δ ys)))) (lends-again R κ (ν ∷ []) q γ b o 𝓤 H A W (named 0) (named 0) ys m refl) $ await ! tt $ pick ! (λ δ. split ! $
         move ! (2 ∷ 0 ∷ []) $ use2 W (raw (Swap 𝓤 H A at-mem run .pre (to-swap ys (r .i) (r .j) ν δ))) (asks-swap ys (r .i) (r .j) ν δ (lt-of-lt-of-le (e .first) (pre .1), lt-of-lt-of-le (e .second) (pre .1)) (fi r u is) (fj r u is)) $
         calls-at ! fm (Swap 𝓤 H A at-mem run) known-swap (to-swap ys (r .i) (r .j) ν δ) (and-then ! (load ! (from ! (stop !)) (look ! 11 refl)) (and-then ! (load ! (from ! (fld ! refl (stop !))) (look-in ! 25 (sub ! 0 refl (whole !)))) (and-then ! (load ! (from ! (fld ! refl (stop !))) (look-in ! 25 (sub ! 1 refl (whole !)))) (no-more !)))) (λ v.
-        use1 W (later (given (v ≡ vunit) (‵ (flft (ν ∷ []) fullShare) ⊛ ‵ (finally R δ (swapped ys (r .i) (r .j)))))) (gives-swap ys (r .i) (r .j) ν δ v) $ await ! tt $ learn ! (λ ev. split ! $
+        use1 W (later (given (v ≡ vunit) (‵ (flft (ν ∷ []) fullShare) ⊛ ‵ (finally R δ (swappedRecords ys (r .i) (r .j)))))) (gives-swap ys (r .i) (r .j) ν δ v) $ await ! tt $ learn ! (λ ev. split ! $
         land ! (from ! (stop !)) (init ! 16 refl (unit-typed ev)) $
-        lft-end ! tt $ move ! (0 ∷ 2 ∷ 1 ∷ []) $ use3 W (later (‵ (Own κ γ (swapped ys (r .i) (r .j))) ⊛ ‵ (flft κ q))) (comes-back R κ (ν ∷ []) q γ b o 𝓤 H A W (named 0) (named 0) ys m refl δ (swapped ys (r .i) (r .j)) room (swapped-length ys (r .i) (r .j))) $ await ! tt $ split ! $
+        lft-end ! tt $ move ! (0 ∷ 2 ∷ 1 ∷ []) $ use3 W (later (‵ (Own κ γ (swappedRecords ys (r .i) (r .j))) ⊛ ‵ (flft κ q))) (comes-back R κ (ν ∷ []) q γ b o 𝓤 H A W (named 0) (named 0) ys m refl δ (swappedRecords ys (r .i) (r .j)) room (swapped-length ys (r .i) (r .j))) $ await ! tt $ split ! $
         -- `mark_if`
         assigns ! (addr ! (from ! (fld ! refl (hop ! (look-in ! 37 (sub ! 0 refl (whole !))) (stop !))))) (from ! (stop !)) (init ! 9 refl (tt, tt)) $
         assigns ! (agg ! (and-then ! (load ! (from ! (stop !)) (look ! 9 refl)) (and-then ! (load ! (from ! (fld ! refl (stop !))) (look-in ! 37 (sub ! 1 refl (whole !)))) (no-more !)))) (from ! (stop !)) (init ! 7 refl (tt, (tt, (record { fits = room .0 }, tt)))) $
         lft-new ! tt (λ ν′. move ! (1 ∷ 2 ∷ []) $
-        use2 W (later (some (λ (δ : GName). ‵ (Own (ν′ ∷ []) δ (swapped ys (r .i) (r .j))) ⊛ ‵ (LentAgain R κ (ν′ ∷ []) q γ b o δ (swapped ys (r .i) (r .j)))))) (lends-again R κ (ν′ ∷ []) q γ b o 𝓤 H A W (named 0) (named 0) (swapped ys (r .i) (r .j)) m (swapped-length ys (r .i) (r .j))) $ await ! tt $ pick ! (λ δ′. split ! $
-        move ! (2 ∷ 0 ∷ []) $ use2 W (raw (Mark 𝓤 H A at-mem run .pre (to-mark (swapped ys (r .i) (r .j)) (r .i) (r .t) (r .on) ν′ δ′))) (asks-mark (swapped ys (r .i) (r .j)) (r .i) (r .t) (r .on) ν′ δ′ (subst (λ (z : ℕ). r .i < z) (sym (swapped-length ys (r .i) (r .j))) (lt-of-lt-of-le (e .first) (pre .1))) (fi r u is) (ft r u is) (fo r u is)) $
-        calls-at ! fm (Mark 𝓤 H A at-mem run) known-mark (to-mark (swapped ys (r .i) (r .j)) (r .i) (r .t) (r .on) ν′ δ′) (and-then ! (load ! (from ! (stop !)) (look ! 7 refl)) (and-then ! (load ! (from ! (fld ! refl (stop !))) (look-in ! 25 (sub ! 0 refl (whole !)))) (and-then ! (load ! (from ! (fld ! refl (stop !))) (look-in ! 25 (sub ! 2 refl (whole !)))) (and-then ! (load ! (from ! (fld ! refl (stop !))) (look-in ! 25 (sub ! 3 refl (whole !)))) (no-more !))))) (λ v′.
-        use1 W (later (given (v′ ≡ vunit) (‵ (flft (ν′ ∷ []) fullShare) ⊛ ‵ (finally R δ′ (asked r ys))))) (gives-mark (swapped ys (r .i) (r .j)) (r .i) (r .t) (r .on) ν′ δ′ v′) $ await ! tt $ learn ! (λ ev′. split ! $
+        use2 W (later (some (λ (δ : GName). ‵ (Own (ν′ ∷ []) δ (swappedRecords ys (r .i) (r .j))) ⊛ ‵ (LentAgain R κ (ν′ ∷ []) q γ b o δ (swappedRecords ys (r .i) (r .j)))))) (lends-again R κ (ν′ ∷ []) q γ b o 𝓤 H A W (named 0) (named 0) (swappedRecords ys (r .i) (r .j)) m (swapped-length ys (r .i) (r .j))) $ await ! tt $ pick ! (λ δ′. split ! $
+        move ! (2 ∷ 0 ∷ []) $ use2 W (raw (Mark 𝓤 H A at-mem run .pre (to-mark (swappedRecords ys (r .i) (r .j)) (r .i) (r .t) (r .on) ν′ δ′))) (asks-mark (swappedRecords ys (r .i) (r .j)) (r .i) (r .t) (r .on) ν′ δ′ (subst (λ (z : ℕ). r .i < z) (sym (swapped-length ys (r .i) (r .j))) (lt-of-lt-of-le (e .first) (pre .1))) (fi r u is) (ft r u is) (fo r u is)) $
+        calls-at ! fm (Mark 𝓤 H A at-mem run) known-mark (to-mark (swappedRecords ys (r .i) (r .j)) (r .i) (r .t) (r .on) ν′ δ′) (and-then ! (load ! (from ! (stop !)) (look ! 7 refl)) (and-then ! (load ! (from ! (fld ! refl (stop !))) (look-in ! 25 (sub ! 0 refl (whole !)))) (and-then ! (load ! (from ! (fld ! refl (stop !))) (look-in ! 25 (sub ! 2 refl (whole !)))) (and-then ! (load ! (from ! (fld ! refl (stop !))) (look-in ! 25 (sub ! 3 refl (whole !)))) (no-more !))))) (λ v′.
+        use1 W (later (given (v′ ≡ vunit) (‵ (flft (ν′ ∷ []) fullShare) ⊛ ‵ (finally R δ′ (afterAsk r ys))))) (gives-mark (swappedRecords ys (r .i) (r .j)) (r .i) (r .t) (r .on) ν′ δ′ v′) $ await ! tt $ learn ! (λ ev′. split ! $
         land ! (from ! (stop !)) (store ! 16 refl (unit-typed ev′)) $
-        lft-end ! tt $ move ! (0 ∷ 2 ∷ 1 ∷ []) $ use3 W (later (‵ (Own κ γ (asked r ys)) ⊛ ‵ (flft κ q))) (comes-back R κ (ν′ ∷ []) q γ b o 𝓤 H A W (named 0) (named 0) (swapped ys (r .i) (r .j)) m (swapped-length ys (r .i) (r .j)) δ′ (asked r ys) room (asked-long r)) $ await ! tt $ split ! $
+        lft-end ! tt $ move ! (0 ∷ 2 ∷ 1 ∷ []) $ use3 W (later (‵ (Own κ γ (afterAsk r ys)) ⊛ ‵ (flft κ q))) (comes-back R κ (ν′ ∷ []) q γ b o 𝓤 H A W (named 0) (named 0) (swappedRecords ys (r .i) (r .j)) m (swapped-length ys (r .i) (r .j)) δ′ (afterAsk r ys) room (asked-long r)) $ await ! tt $ split ! $
         assigns ! (of-opd ! (unit-lit !)) (from ! (stop !)) (init ! 39 refl (tt, tt)) $
         returns ! (look ! 39 refl) $ forget ! 7 refl $ forget ! 9 refl $ forget ! 11 refl $ forget ! 13 refl $ forget ! 15 refl $ forget ! 17 refl $ forget ! 19 refl $ forget ! 21 refl $ forget ! 23 refl $ forget ! 25 refl $ forget ! 27 refl $ forget ! 29 refl $ forget ! 31 refl $ forget ! 33 refl $ forget ! 35 refl $ forget ! 37 refl $ forget ! 39 refl $
         move ! (39 ∷ 40 ∷ []) $ free1 ! $ move ! (37 ∷ 38 ∷ []) $ free1 ! $ move ! (35 ∷ 36 ∷ []) $ free1 ! $ move ! (33 ∷ 34 ∷ []) $ free1 ! $ move ! (31 ∷ 32 ∷ []) $ free1 ! $ move ! (29 ∷ 30 ∷ []) $ free1 ! $ move ! (27 ∷ 28 ∷ []) $ free1 ! $ move ! (25 ∷ 26 ∷ []) $ free1 ! $ move ! (23 ∷ 24 ∷ []) $ free1 ! $ move ! (21 ∷ 22 ∷ []) $ free1 ! $ move ! (19 ∷ 20 ∷ []) $ free1 ! $ move ! (17 ∷ 18 ∷ []) $ free1 ! $ move ! (15 ∷ 16 ∷ []) $ free1 ! $ move ! (13 ∷ 14 ∷ []) $ free1 ! $ move ! (11 ∷ 12 ∷ []) $ free1 ! $ move ! (9 ∷ 10 ∷ []) $ free1 ! $ move ! (7 ∷ 8 ∷ []) $ free1 ! $ free0 ! $
