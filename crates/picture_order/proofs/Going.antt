@@ -6,7 +6,7 @@ use mathlib.Core.List.{List}
 use native.Mathlib.Omega.{arith}
 use lib.ListN.{length}
 use Rattle.read_channels.specs.Definitions.{definitionsTo}
-use Rattle.picture_rules.specs.Order.{run as runOf, arranged}
+use Rattle.picture_rules.specs.Order.{runDefinitions as runOf, arranged}
 use Rattle.picture_order.specs.Flat.{numberAt, reordered}
 use Rattle.picture_order.specs.Comps.{numbered}
 use Rattle.picture_order.specs.Private.Steps.{Agree, Positioned, Started, listOf, Stepped}

@@ -7,6 +7,7 @@ use lib.ListN.{length, replicate}
 use Rattle.box_number.specs.Number.{number, part, bytes}
 use Rattle.box_number.specs.Table.{table}
 use Rattle.box_kind.specs.Kind.{kindOf}
+use Rattle.box_kind.specs.declared.Jp2BoxType.the-variants.{JP2H, IHDR, PCLR, CMAP, CDEF}
 use Rattle.box_header.specs.Box.{headerLength, boxLength}
 use Rattle.read_record.specs.State.{withBit}
 use Rattle.read_record.specs.Answer.{Result, accepted, refused}
@@ -21,6 +22,7 @@ use Rattle.read_jp2h.specs.Jp2h.{readAll, lacksIhdr, jp2h}
 use Rattle.read_file.specs.File.{outer, walk, read}
 use Rattle.read_file.specs.File as file
 use Rattle.read_rules.specs.Alike.{given}
+use Rattle.read_rules.specs.Files.{boxOf, signatureBox, fileTypeBox}
 use Rattle.read_channels.specs.Definitions.{Def, def, definitionsTo}
 use Rattle.picture_rules.specs.Order.{exchange, define}
 use Rattle.picture_rules.specs.Flat.{flat}
@@ -33,33 +35,29 @@ use Rattle.picture_rules.specs.Channels.{channels, componentOf, typeOf}
 use Rattle.picture_rules.specs.Samples.{displayed, lookup, valueFor, valueOf, channelSamples, packed, startOf}
 use Rattle.picture_rules.specs.Finish.{Finishing, finished, declined, counted, expanded, picture, fitted, colourChecks, checks, finish}
 
--- LBox, TBox and the content
-abbrev pub boxByNumber : ℕ → List ℕ → List ℕ
-boxByNumber type content = bytes 4 (8 + length content) ++ bytes 4 type ++ content
-
 -- columns of 8 bits, and the rows one after the other
 abbrev pub paletteBox : ℕ → ℕ → List ℕ → List ℕ
-paletteBox entries columns rows = boxByNumber 0x70636c72 (bytes 2 entries ++ bytes 1 columns ++ replicate columns 7 ++ rows)
+paletteBox entries columns rows = boxOf PCLR (bytes 2 entries ++ bytes 1 columns ++ replicate columns 7 ++ rows)
 
 -- component, type, column
 abbrev pub mapping : ℕ → ℕ → ℕ → List ℕ
 mapping c type column = bytes 2 c ++ bytes 1 type ++ bytes 1 column
 
 abbrev pub mappingBox : List ℕ → List ℕ
-mappingBox mappings = boxByNumber 0x636d6170 mappings
+mappingBox mappings = boxOf CMAP mappings
 
 abbrev pub definitionFields : List Def → List ℕ
 definitionFields [] = []
 definitionFields (d ∷ ds) = bytes 2 (d .channel) ++ bytes 2 (d .typ) ++ bytes 2 (d .asoc) ++ definitionFields ds
 
 abbrev pub definitionBox : List Def → List ℕ
-definitionBox ds = boxByNumber 0x63646566 (bytes 2 (length ds) ++ definitionFields ds)
+definitionBox ds = boxOf CDEF (bytes 2 (length ds) ++ definitionFields ds)
 
 -- signature, file type, and a jp2h of an ihdr for n components of 8 bits and the given boxes
 abbrev pub fileOf : ℕ → List ℕ → List ℕ
 fileOf n boxes =
-    boxByNumber 0x6a502020 (bytes 4 0x0d0a870a) ++ boxByNumber 0x66747970 (bytes 4 0x6a703220 ++ bytes 4 0 ++ bytes 4 0x6a703220)
-    ++ boxByNumber 0x6a703268 (boxByNumber 0x69686472 (bytes 4 1 ++ bytes 4 1 ++ bytes 2 n ++ 7 ∷ 7 ∷ 0 ∷ 0 ∷ []) ++ boxes)
+    signatureBox ++ fileTypeBox
+    ++ boxOf JP2H (boxOf IHDR (bytes 4 1 ++ bytes 4 1 ++ bytes 2 n ++ 7 ∷ 7 ∷ 0 ∷ 0 ∷ []) ++ boxes)
 
 -- components of 1 by 1 and 8 bits without a mark, whose samples start at an index
 abbrev pub onePoint : ℕ → List ℤ → List ℕ

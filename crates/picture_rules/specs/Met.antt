@@ -3,8 +3,9 @@ use Prim.Native.Nat.{ℕ}
 use mathlib.Core.Path.{_≡_}
 use mathlib.Core.List.{List, [], _∷_, _++_}
 use lib.IntN.{pos}
+use Rattle.box_kind.specs.declared.Jp2BoxType.the-variants.{PCLR, CMAP, CDEF}
 use Rattle.read_record.specs.declared.Jp2.{Jp2}
-use Rattle.read_rules.specs.Files.{two, boxByNumber, ihdrBox, picture as fileOf}
+use Rattle.read_rules.specs.Files.{two, boxOf, ihdrBox, pictureFile as fileOf}
 use Rattle.picture_rules.specs.Image.{Image, image}
 use Rattle.picture_rules.specs.Handed.{Handed, settings}
 use Rattle.picture_rules.specs.Words.{Accepted, Defined, Clear}
@@ -25,7 +26,7 @@ abbrev pub otherwise-turned : List ℕ
 otherwise-turned = definitionBytes 1 0 2 ++ definitionBytes 0 0 3 ++ definitionBytes 2 0 1
 
 abbrev pub cdefBox : List ℕ → List ℕ
-cdefBox definitions = boxByNumber 0x63646566 (two 3 ++ definitions)
+cdefBox definitions = boxOf CDEF (two 3 ++ definitions)
 
 -- a component of a width, 1 high and of 8 bits, with its first sample at an index
 abbrev pub planeRecord : ℕ → ℕ → List ℕ
@@ -50,8 +51,8 @@ directPlanes = image (planeRecord 1 2 ++ planeRecord 1 1 ++ planeRecord 1 0) 3 (
 abbrev pub palettedFile : List ℕ → List ℕ
 palettedFile definitions =
     fileOf (ihdrBox 1
-    ++ boxByNumber 0x70636c72 (two 2 ++ 3 ∷ 7 ∷ 7 ∷ 7 ∷ 10 ∷ 20 ∷ 30 ∷ 40 ∷ 50 ∷ 60 ∷ [])
-    ++ boxByNumber 0x636d6170 (mappingBytes 0 1 0 ++ mappingBytes 0 1 1 ++ mappingBytes 0 1 2)
+    ++ boxOf PCLR (two 2 ++ 3 ∷ 7 ∷ 7 ∷ 7 ∷ 10 ∷ 20 ∷ 30 ∷ 40 ∷ 50 ∷ 60 ∷ [])
+    ++ boxOf CMAP (mappingBytes 0 1 0 ++ mappingBytes 0 1 1 ++ mappingBytes 0 1 2)
     ++ cdefBox definitions)
 
 abbrev pub paletted : Handed

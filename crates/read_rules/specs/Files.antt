@@ -5,6 +5,7 @@ use lib.ListN.{length}
 use Rattle.box_kind.specs.Kind.{numberOf}
 use Rattle.box_kind.specs.declared.Jp2BoxType.{Jp2BoxType}
 use Rattle.box_kind.specs.declared.Jp2BoxType.the-variants.{JP, FTYP, JP2H, IHDR, COLR, PCLR, JP2C}
+use Rattle.read_signature.specs.Signature.{signatureContent}
 
 abbrev pub two : ℕ → List ℕ
 two n = n / 256 ∷ n % 256 ∷ []
@@ -29,7 +30,7 @@ abbrev pub extended : ℕ → ℕ → List ℕ
 extended type n = four 1 ++ four type ++ four 0 ++ four n
 
 abbrev pub signatureBox : List ℕ
-signatureBox = boxOf JP (four 0x0d0a870a)
+signatureBox = boxOf JP (four signatureContent)
 
 -- the brand 'jp2 '
 abbrev pub brand : ℕ

@@ -185,7 +185,7 @@ round-trip r bs stream e h =
         lab = refl;
         profile = profile-back r fit stream;
         definitions = defs-back r fit stream;
-        writtenDefinition = definition-back r fit stream;
+        definition = definition-back r fit stream;
         palette = refl;
         mappings = refl;
       },

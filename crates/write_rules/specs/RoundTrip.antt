@@ -53,7 +53,7 @@ pub record ReadBack (r : Request) (f : List ℕ) (m : Jp2) : Type 0 where
   pub profile : profile f m ≡ r .profile
   -- definitions
   pub definitions : m .lists .cdef .count ≡ fieldsOf r .definitions
-  pub writtenDefinition : (i : ℕ) → i < fieldsOf r .definitions → order.definition f (m .lists .cdef) i ≡ writtenDefinition (r .components) (fieldsOf r .colours) i
+  pub definition : (i : ℕ) → i < fieldsOf r .definitions → order.definition f (m .lists .cdef) i ≡ writtenDefinition (r .components) (fieldsOf r .colours) i
   -- no palette, and no mapping
   pub palette : m .lists .pclr .columns ≡ 0
   pub mappings : m .lists .cmap .count ≡ 0

@@ -6,7 +6,7 @@ use native.Mathlib.Omega.{arith}
 use borrow.Author.Needs.{needs}
 use lib.ListN.{length}
 use Rattle.read_channels.specs.Definitions.{definitionsTo}
-use Rattle.picture_rules.specs.Order.{run as runOf, arranged}
+use Rattle.picture_rules.specs.Order.{runDefinitions as runOf, arranged}
 use Rattle.picture_order.specs.Flat.{numberAt}
 use Rattle.picture_order.specs.Private.Steps.{Positioned, Agree, listOf}
 use Rattle.picture_order.proofs.Agreement.{positioned-start, agree-start}
