@@ -102,9 +102,8 @@ impl Jp2BoxHeader {
         if d.len() - 8 < at {
             return false;
         }
-        let ty = self.ty;
         box_number::opj_write_bytes(d, at, self.length, 4);
-        box_number::opj_write_bytes(d, at + 4, ty.to_u32(), 4)
+        box_number::opj_write_bytes(d, at + 4, self.ty_u32(), 4)
     }
 
     pub fn ty_u32(self) -> u32

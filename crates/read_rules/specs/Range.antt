@@ -1,4 +1,4 @@
--- Ranges of a file: where bytes stand, and how many.
+-- Ranges of a file: the place of the first byte, and the number of bytes.
 use Prim.Native.Nat.{ℕ, _+_, _≤_, _<_}
 use mathlib.Core.List.{List, [], _∷_}
 

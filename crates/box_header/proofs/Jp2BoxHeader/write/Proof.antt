@@ -33,8 +33,8 @@ opj-write-bytes-requires c κs = tt
 add-opj-write-bytes : tie.Need-add-opj-write-bytes
 add-opj-write-bytes c = search needs
 
-to-u32-requires : tie.Need-to-u32-requires
-to-u32-requires c κs = tt
+ty-u32-requires : tie.Need-ty-u32-requires
+ty-u32-requires c κs = tt
 
 opj-write-bytes-requires-2 : tie.Need-opj-write-bytes-requires-2
 opj-write-bytes-requires-2 c κs = tt
@@ -44,7 +44,7 @@ same-length c = search needs
 
 returns-3 : tie.Need-returns-3
 unfolding fitsHeader withHeader fits bytes
-returns-3 c = let c₁ = c .before .before .before .before .before .before .before in let a = c₁ .before .before .before .before .before .args in let d = a .d .now in let n = a .self .length in let p = c₁ .opj-write-bytes .ensures .1 ∙ written-fits d (a .at) 4 n (omega arith) (omega arith) in let l : length (c₁ .opj-write-bytes .last .0) ≡ length d = ap length p ∙ length-placed d (a .at) (bytes 4 n) (omega arith) in let q = written-next d (a .at) (bytes 4 n) 4 (c .before .before .before .to-u32 .result) (omega arith) (omega arith) p (c .before .before .opj-write-bytes2 .ensures .1) in (c .before .before .opj-write-bytes2 .ensures .0 ∙ sym (row 1 _ (omega arith) refl) ∙ row 1 _ (omega arith) refl, row 1 _ (omega arith) (q ∙ ap (λ (m : ℕ). placed d (a .at) (bytes 4 n ++ bytes 4 m)) (c .before .before .before .to-u32 .ensures)))
+returns-3 c = let c₁ = c .before .before .before .before .before .before .before in let a = c₁ .before .before .before .before .before .args in let d = a .d .now in let n = a .self .length in let p = c₁ .opj-write-bytes .ensures .1 ∙ written-fits d (a .at) 4 n (omega arith) (omega arith) in let l : length (c₁ .opj-write-bytes .last .0) ≡ length d = ap length p ∙ length-placed d (a .at) (bytes 4 n) (omega arith) in let q = written-next d (a .at) (bytes 4 n) 4 (c .before .before .before .ty-u32 .result) (omega arith) (omega arith) p (c .before .before .opj-write-bytes2 .ensures .1) in (c .before .before .opj-write-bytes2 .ensures .0 ∙ sym (row 1 _ (omega arith) refl) ∙ row 1 _ (omega arith) refl, row 1 _ (omega arith) (q ∙ ap (λ (m : ℕ). placed d (a .at) (bytes 4 n ++ bytes 4 m)) (c .before .before .before .ty-u32 .ensures)))
 
 pub write-spec : {M : Type 1} → statement M
 write-spec =
@@ -55,7 +55,7 @@ write-spec =
     returns-2
     opj-write-bytes-requires
     add-opj-write-bytes
-    to-u32-requires
+    ty-u32-requires
     opj-write-bytes-requires-2
     same-length
     returns-3)
