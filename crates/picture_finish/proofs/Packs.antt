@@ -103,7 +103,7 @@ module _ (f : List ℕ) (m : Jp2) (comps : List ℕ) (count : ℕ) (samples : Li
             fits = omega (arith, size-is c, start-more f m i (suc c) n l);
           }
 
--- c channels are packed: their records and samples stand at the front of the destinations, and the next samples go to a place
+-- c channels are packed: their records and samples are at the front of the destinations, and the next samples go to a place
 pub record Packed (f : List ℕ) (m : Jp2) (i : Image) (records₀ : List ℕ) (planes₀ : List ℤ) (records : List ℕ) (planes : List ℤ) (c at : ℕ) : Type 0 where
   pub start : at ≡ startOf f m i c
   pub numbers : records ≡ fronted (flat (expanded f m i) (13 * c)) records₀

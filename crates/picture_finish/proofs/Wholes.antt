@@ -57,7 +57,7 @@ module _ (h : Handed) where
   unfolding pictured
   reading-on e d = rw (told-read (read (h .file)) e d)
 
-  -- what holds of every accepted picture, whatever stands behind it, holds of the destinations where planes are answered
+  -- what holds of every accepted picture, whatever follows it, holds of the destinations where planes are answered
   carried :
       (x : Finishing) {r : Finished} (records : List ℕ) (planes : List ℤ) {records′ : List ℕ} {planes′ : List ℤ} → pictured h ≡ x → r ≡ answered x → records′ ≡ recordsAfter x records → planes′ ≡ samplesAfter x planes →
       (P : Image → Type 0) (m : Jp2) (n : ℕ) → given (read (h .file)) ≡ accepted m → r ≡ Planes n →

@@ -65,7 +65,7 @@ marked-numbered (c ∷ l) (suc p) t h =
     let e : 13 * suc p + 12 ≡ suc (suc (suc (suc (suc (suc (suc (suc (suc (suc (suc (suc (suc (13 * p + 12))))))))))))) = omega arith in
     ap (λ x. numbersOf c ++ x) (marked-numbered l p t (omega arith)) ∙ sym (ap (λ i. set (numbersOf c ++ numbered l) i t) e)
 
--- what is stored where it already stands changes nothing
+-- what is stored where it already is changes nothing
 pub set-self : (l : List Comp) (i : ℕ) → set l i (getD l i noRecord) ≡ l
 set-self [] i = refl
 set-self (c ∷ l) zero = refl

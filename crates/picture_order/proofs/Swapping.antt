@@ -12,7 +12,7 @@ use Rattle.picture_order.specs.Flat.{numberAt}
 use Rattle.picture_order.specs.Private.Steps.{Exchanged}
 use Rattle.picture_rules.proofs.Exchange
 
--- l with what stands at a and at b exchanged
+-- l with the elements at a and at b exchanged
 abbrev pub swap : List ℕ → ℕ → ℕ → List ℕ
 swap l a b = set (set l a (getD l b 0)) b (getD l a 0)
 

@@ -1,4 +1,4 @@
--- Arrangements that are alike below n stay so, marks too: where channels stand does not depend on records, and an exchange keeps positions below n.
+-- Arrangements that are alike below n stay so, marks too: the positions of channels do not depend on records, and an exchange keeps positions below n.
 -- Assumes nothing.
 use Prim.Native.Nat.{ℕ, _-_, _<_}
 use mathlib.Core.Path.{_≡_, refl, ap, sym}
@@ -11,7 +11,7 @@ use Rattle.picture_rules.specs.Order.{Arranged, exchange, swapped, marke
 use Rattle.picture_rules.proofs.Exchange
 use Rattle.picture_rules.proofs.Steps.{rows, by-row}
 
--- every channel stands at the same position, and positions below n have the same records
+-- every channel is at the same position, and positions below n have the same records
 record Alike (n : ℕ) (a b : Arranged) : Type 0 where
   seats : (c : ℕ) → a .seat c ≡ b .seat c
   stands : (p k : ℕ) → p < n → k < 13 → a .records p k ≡ b .records p k
@@ -24,7 +24,7 @@ module _ (n : ℕ) where
   swapped-alike p q hp hq e =
       record { seats = λ c. ap (exchange p q) (e .seats c); stands = λ r k h l. e .stands (exchange p q r) k (Exchange.below n p q hp hq r h) l }
 
-  -- both meet the same row, since the channel stands at the same position
+  -- both meet the same row, since the channel is at the same position
   define-alike : (d : Def) (a b : Arranged) → Alike n a b → Alike n (define n d a) (define n d b)
   unfolding define
   define-alike d a b e =

@@ -1,4 +1,4 @@
--- How often a definition stands in a list: where it is counted, it stands, and the list falls into what is before and after it.
+-- How often a definition occurs in a list: where it is counted, it occurs, and the list falls into what is before and after it.
 -- Assumes nothing.
 use Prim.Native.Nat.{ℕ, suc, _+_, _<_}
 use mathlib.Core.Path.{_≡_, refl, ap, sym, _∙_}
@@ -39,7 +39,7 @@ pub found : (d e : Def) (ds : List Def) → 0 < times d (e ∷ ds) → (d ≡ e)
 unfolding times
 found d e ds h = either (same d e) (λ b. inl (same-equal d e b)) (λ b. inr (rw b at h))
 
--- a definition that stands in a list has a place in it
+-- a definition that occurs in a list has a place in it
 index : (d : Def) (ds : List Def) → 0 < times d ds → (j : ℕ) × (j < length ds) × (getD ds j (def 0 0 0) ≡ d)
 unfolding times
 index d [] m = absurd (omega arith)
@@ -56,7 +56,7 @@ apart d ds o e m = let t = index e ds m in rw (t .2) at (o 0 (suc (t .0)) (omega
 pub once-rest : (d : Def) (ds : List Def) → Once (d ∷ ds) → Once ds
 once-rest d ds o i j a b = o (suc i) (suc j) (omega arith) (omega arith)
 
--- before and after a definition that stands in a list
+-- before and after a definition that occurs in a list
 pub record Parts (d : Def) (ds : List Def) : Type 0 where
   pub before : List Def
   pub behind : List Def
@@ -80,7 +80,7 @@ times-append d (x ∷ xs) ys = go (same d x) (times-append d xs ys)
     go true e = omega arith
     go false e = e
 
--- a list with the definitions of d ∷ ds, each as often: d stands in it, and the rest are those of ds
+-- a list with the definitions of d ∷ ds, each as often: d occurs in it, and the rest are those of ds
 pub record Taken (d : Def) (ds es : List Def) : Type 0 where
   pub at : Parts d es
   pub rest : Reordered ds (at .before ++ at .behind)

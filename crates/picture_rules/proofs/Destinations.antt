@@ -1,4 +1,4 @@
--- The picture rule of the destinations, and what holds of every picture: both hold of them whatever stands in them behind the picture.
+-- The picture rule of the destinations, and what holds of every picture: both hold of them whatever follows the picture in them.
 -- Assumes nothing.
 use Prim.Native.Nat.{ℕ}
 use mathlib.Core.Path.{sym, subst}

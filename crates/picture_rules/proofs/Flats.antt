@@ -1,4 +1,4 @@
--- The numbers of records in one list: number k of record p stands at 13 * p + k.
+-- The numbers of records in one list: number k of record p is at 13 * p + k.
 -- Assumes nothing.
 use Prim.Native.Nat.{ℕ, zero, suc, _+_, _*_, _/_, _%_, _≤_, _<_}
 use mathlib.Core.Path.{_≡_, refl, sym, _∙_}
@@ -31,7 +31,7 @@ module _ (records : ℕ → ℕ → ℕ) where
       let remainder : (13 * p + k) % 13 ≡ k = omega arith in
       flat-number (13 * n) (13 * p + k) (omega arith) ∙ rw (quotient, remainder)
 
-  -- the first k numbers of record c stand behind all records before it
+  -- the first k numbers of record c are behind all records before it
   pub flat-more : (c k : ℕ) → k ≤ 13 → flat records (13 * c + k) ≡ flat records (13 * c) ++ flat (λ _. records c) k
   unfolding flat
   flat-more c zero h = rw add-zero (sym (append-nil (flat records (13 * c))))

@@ -1,4 +1,4 @@
--- The channels' samples, packed one after the other: where each stands.
+-- The channels' samples, packed one after the other: the place of each.
 -- Assumes nothing.
 use Prim.Native.Nat.{ℕ, zero, suc, _+_, _*_, _≤_, _<_}
 use mathlib.Core.Path.{_≡_, refl, ap, _∙_}
@@ -57,7 +57,7 @@ module _ (f : List ℕ) (m : Jp2) (i : Image) where
   start-more c zero h = let z : c ≡ 0 = omega arith in rw z (omega arith)
   start-more c (suc n) h = last-or (suc n) c (omega arith) (λ e. rw e (le-refl _)) (λ b. omega (arith, start-more c n (omega arith)))
 
-  -- so many channels, each of whose components lies in its list
+  -- channels, each of whose components lies in its list
   abbrev pub Held : ℕ → Type 0
   Held n = (c : ℕ) → c < n → Within i (componentOf f m c)
 
@@ -66,7 +66,7 @@ module _ (f : List ℕ) (m : Jp2) (i : Image) where
   packed-length zero held = refl
   packed-length (suc n) held = rw length-append (omega (arith, packed-length n (λ c h. held c (omega arith)), channel-length n (held n (omega arith))))
 
-  -- a sample of channel c stands in the list
+  -- a sample of channel c is in the list
   packed-holds : (n : ℕ) → Held n → (c k : ℕ) → c < n → k < size i (componentOf f m c) → startOf f m i c + k < length (packed f m i n)
   unfolding startOf
   packed-holds n held c k h l = omega (arith, packed-length n held, start-more (suc c) n h)
@@ -81,7 +81,7 @@ module _ (f : List ℕ) (m : Jp2) (i : Image) where
       (λ e. rw (e, ← long) (getD-append-add (packed f m i n) (channelSamples f m i n) k d))
       (λ b. List·getD-append (packed f m i n) (channelSamples f m i n) d (startOf f m i c + k) (packed-holds n before c k b l) ∙ packed-channel n before c k d b l)
 
-  -- a sample of channel c is what the channel makes of its component's, whatever stands behind the channels
+  -- a sample of channel c is what the channel makes of its component's, whatever follows the channels
   pub packed-at :
       (n : ℕ) → Held n → (behind : List ℤ) (c k : ℕ) (d : ℤ) → c < n → (first i (componentOf f m c) ≡ noData → ⊥) → k < height i (componentOf f m c) * width i (componentOf f m c) →
       getD (packed f m i n ++ behind) (startOf f m i c + k) d ≡ valueOf f m (i .count) c (getD (i .samples) (first i (componentOf f m c) + k) d)

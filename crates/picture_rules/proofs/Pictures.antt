@@ -52,7 +52,7 @@ module _ (f : List ℕ) (m : Jp2) (i : Image) (c : ℕ) where
 at-index : (samples : List ℤ) (start w y x : ℕ) → getD samples (indexOf start w y x) (pos 0) ≡ getD samples (start + (y * w + x)) (pos 0)
 at-index samples start w y x = ap (λ k. getD samples k (pos 0)) (add-assoc start (y * w) x)
 
--- the picture that is made of what is handed in, with any numbers behind its records and any samples behind its own
+-- the picture that is made of the inputs, with any numbers behind its records and any samples behind its own
 module _ (h : Handed) (m : Jp2) (numbers : List ℕ) (samples : List ℤ) (pairs : OrderPairs) where
   abbrev f : List ℕ
   f = h .file

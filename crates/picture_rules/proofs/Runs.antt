@@ -40,7 +40,7 @@ unfolding runDefinitions
 ran n [] records a m = m
 ran n (d ∷ ds) records a m = ran n ds records (define n d a) (defined n d records a m)
 
--- at the start every channel stands at its own number
+-- at the start every channel is at its own number
 pub start : (n : ℕ) (records : ℕ → ℕ → ℕ) → Matched n records (record { seat = λ c. c; records = records })
 start n records = record { from = λ p. p; there = λ c. refl; here = λ p. refl; inside = λ c. refl; stands = λ p k l. refl }
 
@@ -50,7 +50,7 @@ matched n ds records = ran n ds records _ (start n records)
 only : (n : ℕ) (records : ℕ → ℕ → ℕ) (a : Arranged) → Matched n records a → (c e : ℕ) → a .seat c ≡ a .seat e → c ≡ e
 only n records a m c e h = sym (m .there c) ∙ ap (m .from) h ∙ m .there e
 
--- a channel that stands where its colour number says stays there
+-- a channel that is where its colour number says stays there
 stays : (n : ℕ) (d : Def) (ds : List Def) (records : ℕ → ℕ → ℕ) (a : Arranged) → Matched n records a → ((e : Def) → 0 < times e ds → Apart d e) → Colour d → a .seat (d .channel) ≡ d .asoc - 1 → runDefinitions n ds a .seat (d .channel) ≡ d .asoc - 1
 unfolding runDefinitions
 stays n d [] records a m w k e = e
@@ -79,7 +79,7 @@ lands n d (f ∷ ds) records a m o t k h l =
     arrives =
         follows n d a .seats (d .channel) ∙ moving n d _ _ (below, (k .0, (omega arith, (omega arith, omega arith)))) ∙ Exchange.first _ _ _ refl
 
--- where the channels end depends on where they stand only
+-- where the channels end depends only on where they are
 alike : (n : ℕ) (ds : List Def) (a b : Arranged) → ((c : ℕ) → a .seat c ≡ b .seat c) → (c : ℕ) → runDefinitions n ds a .seat c ≡ runDefinitions n ds b .seat c
 unfolding runDefinitions
 alike n [] a b e c = e c

@@ -29,7 +29,7 @@ by-row i n d p a P e r h = subst (λ x. P (table (rows n d x a))) (sym e) (subst
 abbrev pub Apart : Def → Def → Type 0
 Apart d e = (d .channel ≡ e .channel → ⊥) × (Colour d → Colour e → d .asoc ≡ e .asoc → ⊥)
 
--- d's swap takes place where its channel stands at position p
+-- d's swap takes place where its channel is at position p
 abbrev pub moves : ℕ → Def → ℕ → Test
 moves n d p = p <? n and d .typ =? 0 and 0 <? d .asoc and d .asoc ≠? 65535 and d .asoc <? n + 1
 

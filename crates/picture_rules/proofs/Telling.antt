@@ -1,4 +1,4 @@
--- What the rules of demand 3 tell of a point and of a record: a rule is of no use to a reader if it speaks of no row, no column or no record.
+-- What the rules of demand 3 say of a point and of a record: a rule is of no use to a reader if it speaks of no row, no column or no record.
 -- Assumes nothing.
 use Prim.Native.Nat.{ℕ, _<_}
 use mathlib.Core.Path.{_≡_}
@@ -9,7 +9,7 @@ use Rattle.picture_rules.specs.PictureRule.{FilledPlanes}
 use Rattle.picture_rules.specs.EveryPicture.{EveryPlane}
 use Rattle.picture_rules.specs.OrderFreedom.{SamePlanes}
 
--- at every point of channel c's plane stands the channel's sample
+-- at every point of channel c's plane is the channel's sample
 pub tells-sample :
     (h : Handed) (m : Jp2) (planes : Image) (filled : FilledPlanes h m planes) (c : ℕ) → c < planes .count → (Empty h m c → ⊥) →
     let p = filled .pairing .to c in

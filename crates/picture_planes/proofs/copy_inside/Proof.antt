@@ -1,4 +1,4 @@
--- `picture_planes::copy_inside` meets its contract. Before turn k the first k samples stand in the destination.
+-- `picture_planes::copy_inside` meets its contract. Before turn k the first k samples are in the destination.
 -- Assumes nothing.
 use Prim.Native.Nat.{_≤_, _-_}
 use native.Mathlib.Omega.{arith}

@@ -1,4 +1,4 @@
--- `picture_order::lent::opj_jp2_apply_cdef` meets its contract: a walk of its MIR, by hand. The records are passed on to `reorder` for good (`gave-slice`). The two lists of the channels stand in locals, each of which is lent as a slice for a lifetime that is made for the call, and comes back.
+-- `picture_order::lent::opj_jp2_apply_cdef` meets its contract: a walk of its MIR, by hand. The records are passed on to `reorder` for good (`gave-slice`). The two lists of the channels are in locals, each of which is lent as a slice for a lifetime that is made for the call, and comes back.
 -- All that the proof knows of the three functions that it calls is that each meets its contract; `begun` and `together` put their promises together. Assumes nothing.
 use mathlib.Core.Path.{_≡_, refl, sym, _∙_, ap, subst}
 use Prim.Native.Nat.{ℕ, _<_, _^_}

@@ -1,4 +1,4 @@
--- `test_order::lend::apply_four` meets its contract: a walk of its MIR, by hand. The records stand in a local, which is lent whole as a slice to `opj_jp2_apply_cdef` for a lifetime that is made for the call, and comes back at the list that the call left.
+-- `test_order::lend::apply_four` meets its contract: a walk of its MIR, by hand. The records are in a local, which is lent whole as a slice to `opj_jp2_apply_cdef` for a lifetime that is made for the call, and comes back at the list that the call left.
 -- All that the proof knows of `opj_jp2_apply_cdef` is that it meets its contract. What is passed is let go of at exit (`stay-dropped`). Assumes nothing.
 use mathlib.Core.Path.{_≡_, refl, sym, _∙_, ap, subst}
 use Prim.Native.Nat.{ℕ}
