@@ -11,7 +11,7 @@
  * Link target/staticlib/libcuzhantir.a (x86-64, Linux), which `rt staticlib cuzhantir` writes.
  *
  * The answer. Each entry returns 0 when it was taken to an end, else one number of `enum cuzhantir_number`. The same
- * number, and the place that goes with it, stand in the list `reading` or `answer`. The place is one of these:
+ * number, and the place that goes with it, are in the list `reading` or `answer`. The place is one of these:
  *
  *   box offset     where the header of the box at fault starts, counted from the file's first byte
  *   index          the lowest definition, channel, mapping or component at fault, counted from 0
@@ -25,7 +25,7 @@
  * What nothing checks is the lists themselves. A list is a pointer and the number of its elements (not of its bytes).
  * The caller sees to it that
  *
- *   - the pointer is valid for so many elements: to be read, and to be written where it has no `const`;
+ *   - the pointer is valid for that number of elements: to be read, and to be written where it has no `const`;
  *   - it is aligned as its type asks;
  *   - a list that is written overlaps no other list of the call; lists that are only read may overlap each other;
  *   - no other thread writes a list of the call, or reads one that the call writes, until it returns;
@@ -51,12 +51,12 @@
 extern "C" {
 #endif
 
-/* Bytes of stack: at most so many for finishing, and for reading and writing. */
+/* Bytes of stack: the most for finishing, and for reading and writing. */
 #define CUZHANTIR_STACK_FINISH 163840
 #define CUZHANTIR_STACK_READ 8192
 
 /*
- * Why something was turned down, with what the place is. 1 to 24 come from a file, 25 to 30 from finishing, 29 to 34
+ * Causes of a refusal, with the meaning of its place. 1 to 24 come from a file, 25 to 30 from finishing, 29 to 34
  * from writing.
  *
  * 29 is a record or plane outside its list; over 16384 records or 4294967294 samples; a palette, mapping or definition
@@ -126,7 +126,7 @@ enum cuzhantir_reading {
   CUZHANTIR_READING_METH = 10,       /* colr: 1 enumerated, 2 profile */
   CUZHANTIR_READING_PRECEDENCE = 11, /* colr */
   CUZHANTIR_READING_APPROX = 12,     /* colr */
-  CUZHANTIR_READING_ENUMCS = 13, /* colr: 16 sRGB, 17 grey, 18 sYCC, 14 CIELab, or any other number that stands there */
+  CUZHANTIR_READING_ENUMCS = 13, /* colr: 16 sRGB, 17 grey, 18 sYCC, 14 CIELab, or any other number */
   CUZHANTIR_READING_LAB_0 = 14,  /* colr: nine numbers of CIELab */
   CUZHANTIR_READING_LAB_1 = 15,
   CUZHANTIR_READING_LAB_2 = 16,
@@ -177,7 +177,7 @@ enum cuzhantir_answer {
 
 /*
  * The numbers of a component, and of a finished plane: the fields of opj_image_comp in their order. The sample at row y,
- * column x stands at data + y * w + x of the list of samples.
+ * column x is at data + y * w + x of the list of samples.
  */
 enum cuzhantir_component {
   CUZHANTIR_COMPONENT_DX = 0,
@@ -271,7 +271,7 @@ struct cuzhantir_definition {
   uint32_t asoc; /* 0 the whole picture, 65535 none, else the colour's number, counted from 1 */
 };
 
-/* A mapping of the file, as it stands there. Finishing takes all for palette mappings, each to its own column, where there
+/* A mapping of the file as it is. Finishing takes all for palette mappings, each to its own column, where there
    is one component and one of the mappings after the first is direct. */
 struct cuzhantir_mapping {
   uint32_t component;
@@ -285,7 +285,7 @@ static inline uint32_t cuzhantir_two(const uint8_t *file, size_t at) {
   return high * 256u + file[at + 1];
 }
 
-/* Where element n stands of a list with a place and a count, of elements of so many bytes; 0, at which no list stands, where
+/* The place of element n of a list with a place and a count, of elements of a given size in bytes; 0, where no list is, if
    it has none or the element does not lie in the file. */
 static inline size_t cuzhantir_element(size_t file_len, uint64_t place, uint64_t count, uint64_t n, uint64_t bytes) {
   if (n >= count || place > file_len || n >= (file_len - place) / bytes) {
