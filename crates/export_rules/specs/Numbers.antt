@@ -18,7 +18,7 @@ use Rattle.export_rules.specs.Places.{kind, value, place, pclrPlace, pcl
 abbrev pub ofAnswer : FileAnswer → List ℕ
 ofAnswer (Codestream offset) = readingCodestream ∷ offset ∷ 0 ∷ []
 ofAnswer Ended = readingEnded ∷ 0 ∷ 0 ∷ []
-ofAnswer (Refused refusalNumber at) = readingRefused ∷ refusalNumber ∷ at ∷ []
+ofAnswer (Refused number at) = readingRefused ∷ number ∷ at ∷ []
 
 -- the number of a refusal, 0 for any other answer
 abbrev pub refusalNumber : FileAnswer → ℕ
