@@ -3,7 +3,7 @@
 use native.Mathlib.Omega.{arith}
 use mathlib.Core.Path.{_≡_, refl, _∙_}
 use Rattle.read_record.specs.Record.{blank}
-use Rattle.read_file.specs.File.{Walked, codestream, ended, turnedDown, read, reading}
+use Rattle.read_file.specs.File.{Walked, codestream, ended, fileRefused, read, reading}
 use Rattle.read_rules.proofs.Definitions.{numbers-within}
 use Rattle.read_rules.proofs.Sounds.{record-sound}
 use Rattle.picture_finish.specs.Whole.{pictured}
@@ -22,7 +22,7 @@ two-steps h = go (read (h .file)) refl
         rw e (on h _ (omega arith, (omega arith, ((λ two. absurd (omega arith)), (omega arith, omega arith)))) (λ two. omega arith) ∙ finish-same h m)
     go (ended m) e fits =
         rw e (on h _ (omega arith, (omega arith, ((λ two. absurd (omega arith)), (omega arith, omega arith)))) (λ two. omega arith) ∙ finish-same h m)
-    go (turnedDown number place) e fits =
+    go (fileRefused number place) e fits =
         let w = numbers-within (h .file) blank number place e in
         rw e (refused h _ (omega arith, (omega arith, ((λ two. ((λ z. omega (arith, w .0)), w .1)), (omega arith, omega arith)))) refl)
 

@@ -13,7 +13,7 @@ use Rattle.read_record.specs.Record.{blank}
 use Rattle.read_record.specs.Answer.{accepted, refused}
 use Rattle.read_file.specs.declared.FileAnswer.the-variants as answers
 use Rattle.read_file.specs.declared.Reading.{Reading}
-use Rattle.read_file.specs.File.{Walked, codestream, ended, turnedDown, read, reading}
+use Rattle.read_file.specs.File.{Walked, codestream, ended, fileRefused, read, reading}
 use Rattle.read_file.proofs.FileAnswer.{the-type}
 use Rattle.read_rules.specs.Alike.{given}
 use Rattle.picture_rules.specs.Image.{Image, image}
@@ -40,13 +40,13 @@ told-refused : (w : Walked) {r : Reading} {number place : ℕ} → r ≡ reading
 unfolding reading
 told-refused (codestream offset m) e d = let z : _≡_ {A = ℕ} 0 1 = cc in absurd (omega arith)
 told-refused (ended m) e d = let z : _≡_ {A = ℕ} 0 1 = cc in absurd (omega arith)
-told-refused (turnedDown number place) e d = cc
+told-refused (fileRefused number place) e d = cc
 
 told-read : (w : Walked) {r : Reading} → r ≡ reading blank w → OneOf reads (tagOf the-type (r .answer)) → given w ≡ accepted (r .jp2)
 unfolding reading
 told-read (codestream offset m) e d = cc
 told-read (ended m) e d = cc
-told-read (turnedDown number place) e d = absurd (miss reads 2 tt (rw e at d))
+told-read (fileRefused number place) e d = absurd (miss reads 2 tt (rw e at d))
 
 module _ (h : Handed) where
   pub reading-refused : {r : Reading} {number place : ℕ} → r ≡ reading blank (read (h .file)) → r .answer ≡ answers.Refused number place → pictured h ≡ declined number place

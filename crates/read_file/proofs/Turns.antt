@@ -29,7 +29,7 @@ use Rattle.read_jp2h.proofs.Faults.{split-none}
 use Rattle.read_file.specs.declared.Reading.{Reading}
 use Rattle.read_file.specs.declared.Found.{Found}
 use Rattle.read_file.specs.declared.Found.the-variants.{Nothing, Codestream, Short, Past, Whole}
-use Rattle.read_file.specs.File.{Walked, ended, turnedDown, thenWalk, stream, other, pastEnd, outer, run, reading}
+use Rattle.read_file.specs.File.{Walked, ended, fileRefused, thenWalk, stream, other, pastEnd, outer, run, reading}
 use Rattle.read_file.specs.Private.Turn.{found, Heads, boxWith, boxAt, isRead, isEarly, headerOrSkipped}
 
 -- what was answered is what the definition says; where the file has ended, whatever the record before it
@@ -140,10 +140,10 @@ module _ (at : ℕ) (c : List ℕ) (k : Jp2) where
           )
 
       module _ (t : tag (kindOf (TBox c)) ≡ tag JP2C → ⊥) where
-        run-short : boxLength c < headerLength c → Runs (turnedDown 3 at)
+        run-short : boxLength c < headerLength c → Runs (fileRefused 3 at)
         unfolding split run
         run-short h =
-            each (λ (bs : Boxes). run bs k ≡ turnedDown 3 at) _ (
+            each (λ (bs : Boxes). run bs k ≡ fileRefused 3 at) _ (
               (λ z. absurd (omega arith)),
               λ z. (
                 (λ l. absurd (omega arith)),
@@ -210,7 +210,7 @@ module _ (at : ℕ) (c : List ℕ) (k : Jp2) where
     abbrev pub Tells : Found → Type 0
     Tells Nothing = Runs (ended k)
     Tells (Codestream m) = (m ≤ length c) × Runs (stream (boxAt JP2C at (at + m)) k)
-    Tells Short = Runs (turnedDown 3 at)
+    Tells Short = Runs (fileRefused 3 at)
     Tells (Past h) = Runs (pastEnd (boxAt (h .ty) at 0) k)
     Tells (Whole h) = (h ≡ headerOf c) × (headerLength c ≤ boxLength c) × (boxLength c ≤ length c) × Runs (thenWalk (outer (firstBox at c) k) (λ m. run (split n (at + boxLength c) (drop (boxLength c) c)) m))
 

@@ -20,7 +20,7 @@ use Rattle.read_jp2h.specs.Split.{firstBox, split, boxes}
 use Rattle.read_jp2h.proofs.Faults.{split-none}
 use Rattle.read_file.specs.declared.Found.{Found}
 use Rattle.read_file.specs.declared.Found.the-variants.{Nothing, Codestream, Short, Past, Whole}
-use Rattle.read_file.specs.File.{Walked, ended, turnedDown, stream, pastEnd, outer, run, walk}
+use Rattle.read_file.specs.File.{Walked, ended, fileRefused, stream, pastEnd, outer, run, walk}
 use Rattle.read_file.specs.Private.Turn.{found, Heads, boxAt}
 use Rattle.read_file.proofs.Turns.{heads-long, found-tells}
 
@@ -61,7 +61,7 @@ module _ {w : Walked} {at : ℕ} {c : List ℕ} {k : Jp2} (g : Going w at c k) w
     pub going-stream : {m : ℕ} → r ≡ Codestream m → stream (boxAt JP2C at (at + m)) k ≡ w
     going-stream f = runs-to (λ n. found-tells at c k n some e f .1)
 
-    pub going-short : r ≡ Short → turnedDown 3 at ≡ w
+    pub going-short : r ≡ Short → fileRefused 3 at ≡ w
     going-short f = runs-to (λ n. found-tells at c k n some e f)
 
     pub going-past : {h : Jp2BoxHeader} → r ≡ Past h → pastEnd (boxAt (h .ty) at 0) k ≡ w
@@ -79,7 +79,7 @@ module _ {w : Walked} {at : ℕ} {c : List ℕ} {k : Jp2} (g : Going w at c k) w
       going-less {n} z = let q = going-fits in rw (rest-is c n, length-drop) (omega arith)
 
       module _ {o : Outcome} (d : o ≡ answer k (outer (firstBox at c) k)) where
-        pub going-down : {n p : ℕ} → o .answer ≡ Refused n p → turnedDown n p ≡ w
+        pub going-down : {n p : ℕ} → o .answer ≡ Refused n p → fileRefused n p ≡ w
         going-down a = runs-to (λ n. found-tells at c k n some e f .3 ∙ rw (answer-refused k (outer (firstBox at c) k) d a))
 
         pub going-on : {n i : ℕ} → o .answer ≡ Done → n ≡ 0 + h .length → i ≡ at + h .length → Going w i (take (length c - n) (drop n c)) (o .jp2)

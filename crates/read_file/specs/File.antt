@@ -22,18 +22,18 @@ use Rattle.read_file.specs.declared.Reading.{Reading}
 pub data Walked : Type 0 where
   codestream : ℕ → Jp2 → Walked
   ended : Jp2 → Walked
-  turnedDown : ℕ → ℕ → Walked
+  fileRefused : ℕ → ℕ → Walked
 
 abbrev pub thenWalk : Result → (Jp2 → Walked) → Walked
 thenWalk (accepted k) next = next k
-thenWalk (refused number place) next = turnedDown number place
+thenWalk (refused number place) next = fileRefused number place
 
 abbrev pub isStream : Box → Test
 isStream b = b .kind is JP2C
 
 -- I.5.4: the codestream is reached once the header bit is set
 abbrev pub stream : Box → Jp2 → Walked
-stream b k = table (headerBit k =? 0 ⇒ turnedDown 2 (b .place) ∣ otherwise (codestream (b .start) (withState (withBit 8 (k .status .state)) k)))
+stream b k = table (headerBit k =? 0 ⇒ fileRefused 2 (b .place) ∣ otherwise (codestream (b .start) (withState (withBit 8 (k .status .state)) k)))
 
 -- any other box may not come before signature and file type; it sets the unknown bits of the state, and the header bit is one of them (difference 15)
 abbrev pub other : Box → Jp2 → Result
@@ -56,7 +56,7 @@ outer b k =
 
 -- a box whose content reaches past the end: the file has ended there, unless the box is one that is read
 abbrev pub pastEnd : Box → Jp2 → Walked
-pastEnd b k = table (isFileHeader (b .kind) or isImageHeader (b .kind) ⇒ turnedDown 4 (b .place) ∣ otherwise (thenWalk (other b k) ended))
+pastEnd b k = table (isFileHeader (b .kind) or isImageHeader (b .kind) ⇒ fileRefused 4 (b .place) ∣ otherwise (thenWalk (other b k) ended))
 
 -- a box that lies in the file, and what comes after it
 abbrev pub whole : Box → Jp2 → (Jp2 → Walked) → Walked
@@ -68,13 +68,13 @@ run noBytes k = ended k
 run (cut place) k = ended k
 run (highWord place) k = ended k
 run (toEnd b) k = whole b k ended
-run (short b) k = table (isStream b ⇒ stream b k ∣ otherwise (turnedDown 3 (b .place)))
+run (short b) k = table (isStream b ⇒ stream b k ∣ otherwise (fileRefused 3 (b .place)))
 run (past b) k = table (isStream b ⇒ stream b k ∣ otherwise (pastEnd b k))
 run (b ▸ bs) k = whole b k (λ m. run bs m)
 
 -- a file read from a record on
 unfoldable pub walk : List ℕ → Jp2 → Walked
-walk f j = table (largest <? length f ⇒ turnedDown 1 0 ∣ otherwise (run (boxes 0 f) j))
+walk f j = table (largest <? length f ⇒ fileRefused 1 0 ∣ otherwise (run (boxes 0 f) j))
 
 -- a file read from the record before any box
 abbrev pub read : List ℕ → Walked
@@ -84,4 +84,4 @@ read f = walk f blank
 unfoldable pub reading : Jp2 → Walked → Reading
 reading old (codestream offset k) = record { answer = Codestream offset; jp2 = k }
 reading old (ended k) = record { answer = Ended; jp2 = k }
-reading old (turnedDown number place) = record { answer = Refused number place; jp2 = old }
+reading old (fileRefused number place) = record { answer = Refused number place; jp2 = old }

@@ -9,7 +9,7 @@ ghost use Rattle.read_record.specs.Record.{blank};
 ghost use Rattle.read_record.specs.State.{withBit, unknown, withUnknown};
 ghost use Rattle.read_record.specs.Answer.{accepted, answer};
 ghost use Rattle.read_jp2h.specs.Split.{firstBox};
-ghost use Rattle.read_file.specs.File.{ended, turnedDown, stream, other, pastEnd, outer, walk, read, reading};
+ghost use Rattle.read_file.specs.File.{ended, fileRefused, stream, other, pastEnd, outer, walk, read, reading};
 ghost use Rattle.read_file.specs.Private.Turn.{found, Heads, boxWith, boxAt, isRead, isEarly, headerOrSkipped};
 use box_header::Jp2BoxHeader;
 use box_header::LARGEST;
@@ -75,7 +75,7 @@ fn find_box(c: &[u8]) -> Found
 }
 
 fn refuse(number: u32, place: u32, j: Jp2) -> Reading
-    ensures { λ r. ⌜ r ≡ reading j (turnedDown number place) ⌝ }
+    ensures { λ r. ⌜ r ≡ reading j (fileRefused number place) ⌝ }
 {
     Reading {
         answer: FileAnswer::Refused(number, place),

@@ -10,7 +10,7 @@ use Rattle.box_number.proofs.Rows.{row, each}
 use Rattle.read_record.specs.declared.Jp2.{Jp2}
 use Rattle.read_record.specs.Record.{blank}
 use Rattle.read_record.specs.Answer.{accepted}
-use Rattle.read_file.specs.File.{Walked, codestream, ended, turnedDown, walk, read}
+use Rattle.read_file.specs.File.{Walked, codestream, ended, fileRefused, walk, read}
 use Rattle.read_rules.specs.Alike.{given, DefinitionsFree}
 use Rattle.read_rules.specs.Apart.{entries}
 use Rattle.read_rules.specs.Places.{PlacesWithin, NumbersWithin, TooLong}
@@ -35,7 +35,7 @@ read-moves {f} {P} law m = go (read f) (walk-reads law blank)
     go : (w : Walked) → Reads P (heard (length f) 0 blank) 0 f blank w → given w ≡ accepted m → Moves P (heard (length f) 0 blank) 0 f blank m
     go (codestream offset k) y e = let z : k ≡ m = cc in subst (Moves P (heard (length f) 0 blank) 0 f blank) z (y .1)
     go (ended k) y e = let z : k ≡ m = cc in subst (Moves P (heard (length f) 0 blank) 0 f blank) z y
-    go (turnedDown number place) y e = let z : _≡_ {A = ℕ} 0 1 = cc in absurd (omega arith)
+    go (fileRefused number place) y e = let z : _≡_ {A = ℕ} 0 1 = cc in absurd (omega arith)
 
 -- of what asks nothing of the record
 nothing : (f : List ℕ) → Law f (λ _ _. Unit)
@@ -49,7 +49,7 @@ definitions-free f g m e a =
     each (λ (_ : ℕ). read g ≡ read f) (m .lists .cdef .count =? 0 ⇒ 0 ∣ otherwise 0)
     ((λ z. ap read (equal-apart d (λ i l b. omega arith))), λ h. rw (a .long, free refl (omega arith) ((read-moves (nothing f) m e) .list) g d))
 
-refused-reads : (f : List ℕ) (j : Jp2) (number place : ℕ) → walk f j ≡ turnedDown number place → Refuses number place (length f)
+refused-reads : (f : List ℕ) (j : Jp2) (number place : ℕ) → walk f j ≡ fileRefused number place → Refuses number place (length f)
 refused-reads f j number place e = later (subst (Reads (λ _ _. Unit) (heard (length f) 0 j) 0 f j) e (walk-reads (nothing f) j)) (omega arith)
 
 pub numbers-within : NumbersWithin

@@ -9,7 +9,7 @@ use Rattle.box_header.specs.Box.{headerLength, boxLength}
 use Rattle.read_record.specs.declared.Span.{Span}
 use Rattle.read_record.specs.declared.Jp2.{Jp2}
 use Rattle.read_record.specs.Answer.{Result, accepted, refused}
-use Rattle.read_file.specs.File.{Walked, codestream, ended, turnedDown, thenWalk}
+use Rattle.read_file.specs.File.{Walked, codestream, ended, fileRefused, thenWalk}
 use Rattle.read_rules.specs.Apart.{entries}
 use Rattle.read_rules.proofs.Sames.{Headed}
 use Rattle.read_rules.proofs.Parts.{Whole, content, rest, length-content, length-rest, AlikeFrom, equal-before, equal-after, alike-drop, alike-headed, alike-part}
@@ -76,7 +76,7 @@ pub record Refuses (number place end : ℕ) : Type 0 where
 abbrev pub Reads : {X : Type 0} → (ℕ → Jp2 → Type 0) → (List ℕ → X) → ℕ → List ℕ → Jp2 → Walked → Type 0
 Reads P R start c j (codestream offset m) = (offset ≤ start + length c) × Moves P R start c j m
 Reads P R start c j (ended m) = Moves P R start c j m
-Reads P R start c j (turnedDown number place) = Refuses number place (start + length c)
+Reads P R start c j (fileRefused number place) = Refuses number place (start + length c)
 
 pub refuses : {number place end : ℕ} → 1 ≤ number → number ≤ 24 → place < end → Refuses number place end
 refuses a b w = record { least = a; most = b; within = w }
@@ -104,4 +104,4 @@ module _ {f : List ℕ} {P : ℕ → Jp2 → Type 0} (law : Law f P) {X Y Z : Ty
       go : (a : Walked) → Reads P (G m) (at + boxLength c) (rest c c) m a → Reads P R at c k a
       go (codestream offset o) z = (omega (arith, length-rest w, z .0), both x (z .1) (whole m refl))
       go (ended o) z = both x z (whole m refl)
-      go (turnedDown number place) z = later z (omega (arith, length-rest w))
+      go (fileRefused number place) z = later z (omega (arith, length-rest w))

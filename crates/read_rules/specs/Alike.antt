@@ -5,7 +5,7 @@ use mathlib.Core.List.{List}
 use lib.ListN.{length, getD}
 use Rattle.read_record.specs.declared.Jp2.{Jp2}
 use Rattle.read_record.specs.Answer.{Result, accepted, refused}
-use Rattle.read_file.specs.File.{Walked, codestream, ended, turnedDown, read}
+use Rattle.read_file.specs.File.{Walked, codestream, ended, fileRefused, read}
 use Rattle.read_rules.specs.Range.{Range, range, In}
 
 -- g has the length of f and, outside a range, its bytes
@@ -17,7 +17,7 @@ pub record Alike (f g : List ℕ) (r : Range) : Type 0 where
 abbrev pub given : Walked → Result
 given (codestream offset m) = accepted m
 given (ended m) = accepted m
-given (turnedDown number place) = refused number place
+given (fileRefused number place) = refused number place
 
 -- the bytes of the definition list: six for each definition
 abbrev pub definitionRange : Jp2 → Range

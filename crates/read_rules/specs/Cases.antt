@@ -20,7 +20,7 @@ use Rattle.read_channels.specs.Cmap.{cmap}
 use Rattle.read_channels.specs.Cdef.{cdef}
 use Rattle.read_jp2h.specs.Split.{split}
 use Rattle.read_jp2h.specs.Jp2h.{readAll, lacksIhdr, jp2h}
-use Rattle.read_file.specs.File.{Walked, codestream, ended, turnedDown, outer, run, walk, read}
+use Rattle.read_file.specs.File.{Walked, codestream, ended, fileRefused, outer, run, walk, read}
 use Rattle.read_rules.specs.Files.{two, four, boxOf, extended, free, signatureBox, fileTypeBox, streamBox, unknownBox, ihdrBox, greyBox, pclrBox, pictureFile}
 
 -- the expected result of a file: the codestream at an offset, "ended", or a number at a place
@@ -72,9 +72,9 @@ meets (codestream offset k) (refusedAt n p) = false
 meets (ended k) (streamAt n) = false
 meets (ended k) over = true
 meets (ended k) (refusedAt n p) = false
-meets (turnedDown number place) (streamAt n) = false
-meets (turnedDown number place) over = false
-meets (turnedDown number place) (refusedAt n p) = eqb number n && eqb place p
+meets (fileRefused number place) (streamAt n) = false
+meets (fileRefused number place) over = false
+meets (fileRefused number place) (refusedAt n p) = eqb number n && eqb place p
 
 abbrev pub all : Cases → Bool
 all end = true
