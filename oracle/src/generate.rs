@@ -25,8 +25,8 @@ use mutation::mutate;
 use random::Random;
 
 pub use arrangements::{
-    definition_lists, definition_orders, large_pictures, mapping_lists, palette_widths,
-    picture_edges,
+    definition_lists, definition_orders, large_pictures, mapping_lists, palette_edges,
+    palette_widths, picture_edges,
 };
 pub use boxes::{plain, FREE, FTYP, IHDR, JP, JP2C, JP2H};
 pub use contents::MAGIC;

@@ -6,8 +6,8 @@ mod tally;
 use crate::comparison::Comparison;
 use check::CheckedPicture;
 use oracle::generate::{
-    definition_lists, definition_orders, large_pictures, mapping_lists, palette_widths,
-    picture_edges, Pictures,
+    definition_lists, definition_orders, large_pictures, mapping_lists, palette_edges,
+    palette_widths, picture_edges, Pictures,
 };
 
 /// Whether the two agree on all pictures.
@@ -20,6 +20,7 @@ pub fn compare(seed: u64, count: u64) -> bool {
     comparison.all("orders of definitions", definition_orders());
     comparison.all("lists of mappings", mapping_lists());
     comparison.all("palettes of every width", palette_widths());
+    comparison.all("first and last entries", palette_edges().into_iter());
     comparison.all("edges", picture_edges());
     comparison.all("large pictures", large_pictures());
     let pictures = Pictures::new(seed);

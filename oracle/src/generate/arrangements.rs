@@ -195,6 +195,29 @@ pub fn palette_widths() -> impl Iterator<Item = FinishingRequest> {
     })
 }
 
+/// Entries of 4 bytes on both sides of 2^31, and the last entry of the longest palette, with samples just below, at and
+/// above it.
+pub fn palette_edges() -> Vec<FinishingRequest> {
+    let large = [0x7fff_ffff_u32, 0x8000_0000, u32::MAX].map(u32::to_be_bytes);
+    let rows: Vec<u8> = (0..1024).map(|row| (row % 251) as u8).collect();
+    [
+        (3, 31, large.concat(), vec![-1, 0, 1, 2, 3]),
+        (1024, 7, rows, vec![1022, 1023, 1024]),
+    ]
+    .into_iter()
+    .map(|(entries, width, rows, samples)| {
+        let children = [
+            plain(PCLR, &pclr(entries, 1, &[width], &rows)),
+            plain(CMAP, &cmap(&[(0, 1, 0)])),
+        ];
+        let mut edge = request(1, &children);
+        edge.components[2] = samples.len() as u32;
+        edge.samples = samples;
+        fitted(edge)
+    })
+    .collect()
+}
+
 /// Short lists and short destinations, each next to one that is just long enough, with and without the ignore flag.
 pub fn picture_edges() -> Vec<FinishingRequest> {
     let mapped = [(0, 1, 0), (1, 0, 0), (0, 1, 2)];

@@ -3,7 +3,8 @@
 use crate::outcomes;
 use oracle::finished::{answer, Answer, FINISHED};
 use oracle::generate::{
-    definition_lists, definition_orders, mapping_lists, palette_widths, picture_edges, Pictures,
+    definition_lists, definition_orders, mapping_lists, palette_edges, palette_widths,
+    picture_edges, Pictures,
 };
 use oracle::{FinishingRequest, NO_DATA};
 use std::collections::{BTreeMap, HashSet};
@@ -42,6 +43,7 @@ impl PictureChoice {
         choice.take_all(definition_orders())?;
         choice.take_all(palette_widths().step_by(2))?;
         choice.take_all(palette_widths().skip(1).step_by(2 * OF_WIDTHS))?;
+        choice.take_all(palette_edges().into_iter())?;
         choice.take_all(picture_edges().into_iter().step_by(OF_EDGES))?;
         choice.take_all(mapping_lists().step_by(OF_MAPPINGS))?;
         choice.take_finished(mapping_lists())?;
