@@ -1,6 +1,6 @@
 -- What an accepted request says of its numbers: every field fits in its bytes.
 -- Assumes nothing.
-use Prim.Native.Nat.{ℕ, _+_, _%_, _≤_, _<_}
+use Prim.Native.Nat.{ℕ, _+_, _/_, _%_, _≤_, _<_}
 use mathlib.Core.Path.{_≡_, refl, sym}
 use mathlib.Core.List.{List}
 use mathlib.Core.Bool.{false}
@@ -75,6 +75,11 @@ module _ (r : Request) (bs : List ℕ) where
         ),
       )
 
+-- the way from b to a, in steps that wrap at 2^32
+pub wrapping-back : (a b : ℕ) → a < 4294967296 → b < 4294967296 → (b + wrapping a b) % 4294967296 ≡ a
+unfolding wrapping
+wrapping-back a b l h = omega arith
+
 pub wrapping-most : (a b : ℕ) → wrapping a b < 4294967296
 unfolding wrapping
 wrapping-most a b = mod-lt _ (omega arith)
@@ -93,6 +98,11 @@ module _ (r : Request) (fit : Fit r) where
   unfolding BPCi
   byte-precision c l = omega (arith, fit .bits c l)
 
+  -- and its sign
+  pub byte-sign : (c : ℕ) → c < r .count → BPCi (r .components) c / 128 ≡ signOf (r .components) c
+  unfolding BPCi
+  byte-sign c l = omega (arith, fit .bits c l)
+
   -- BPC is 255, or the first component's byte where all have its precision
   pub one-depth : (fieldsOf r .bpc ≡ varies → ⊥) → (fieldsOf r .bpc ≡ BPCi (r .components) 0) × ((c : ℕ) → c < r .count → precision (r .components) c ≡ precision (r .components) 0)
   unfolding BPC
@@ -106,15 +116,15 @@ module _ (r : Request) (fit : Fit r) where
   n-most = each (λ n. n ≤ r .count) _ ((λ _. omega arith), λ _. ((λ _. omega arith), λ _. ((λ _. omega arith), λ _. omega arith)))
 
 module _ (r : Request) where
-  meth-one : length (r .profile) ≡ 0 → fieldsOf r .meth ≡ 1
+  pub meth-one : length (r .profile) ≡ 0 → fieldsOf r .meth ≡ 1
   unfolding METH
   meth-one z = sym (row 0 _ z refl)
 
-  meth-two : (length (r .profile) ≡ 0 → ⊥) → fieldsOf r .meth ≡ 2
+  pub meth-two : (length (r .profile) ≡ 0 → ⊥) → fieldsOf r .meth ≡ 2
   unfolding METH
   meth-two z = sym (row 1 _ (z, tt) refl)
 
-  no-space : fieldsOf r .meth ≡ 2 → fieldsOf r .enumcs ≡ 0
+  pub no-space : fieldsOf r .meth ≡ 2 → fieldsOf r .enumcs ≡ 0
   unfolding EnumCS
   no-space e = sym (row 0 _ e refl)
 

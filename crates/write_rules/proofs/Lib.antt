@@ -3,10 +3,13 @@ pub mod Lengths
 pub mod Splitting
 pub mod Steps
 pub mod Bounds
+pub mod Words
 pub mod Children
 pub mod Header
 pub mod Places
 pub mod Whole
+pub mod Accepts
 pub mod RoundTrip
+pub mod Exact
 pub mod Refusals
 pub mod Telling

@@ -1,23 +1,26 @@
 -- What is written is read back.
 -- Assumes nothing.
-use Prim.Native.Nat.{ℕ, _+_, _*_, _%_, _≤_, _<_}
-use mathlib.Core.Path.{_≡_, refl, sym, _∙_}
-use mathlib.Core.List.{List, [], _∷_, _++_, append-assoc}
+use Prim.Native.Nat.{ℕ, _+_, _-_, _*_, _/_, _%_, _≤_, _<_}
+use mathlib.Core.Path.{_≡_, refl, sym, ap, ap₂, _∙_}
+use mathlib.Core.List.{List, [], _++_, append-assoc, append-nil}
+use mathlib.Core.Logic.{⊎-elim}
 use native.Mathlib.Omega.{arith}
 use lib.ListN.{length, length-append}
 use Rattle.box_number.specs.Number.{number, part, bytes}
-use Rattle.box_number.specs.Table.{_=?_, _≠?_}
+use Rattle.box_number.specs.Table.{_≠?_, table}
 use Rattle.box_number.proofs.Rows.{row, each}
 use Rattle.box_number.proofs.Bytes.{length-bytes}
-use Rattle.box_kind.specs.declared.Jp2BoxType.the-variants.{JP2H, BPCC, COLR, CDEF}
+use Rattle.box_kind.specs.declared.Jp2BoxType.the-variants.{JP2H, JP2C, BPCC, COLR, CDEF}
 use Rattle.read_record.specs.Record.{span}
+use Rattle.read_record.specs.State.{withBit}
 use Rattle.read_signature.specs.FileType as typing
 use Rattle.read_image.specs.Bpcc as image
 use Rattle.read_rules.proofs.Parts.{Lies, lies-whole}
 use Rattle.read_channels.specs.Definitions.{Def, def}
 use Rattle.read_channels.specs.Definitions as order
 use Rattle.box_number.proofs.Indices.{decide}
-use Rattle.write_rules.specs.Request.{Request, precision}
+use Rattle.write_rules.specs.Request.{Request, precision, signOf}
+use Rattle.write_rules.specs.Words.{Corners, SignTold, Opacity}
 use Rattle.write_rules.specs.Setup.{varies, BPCi, PREC, APPROX, writtenDefinition, fieldsOf}
 use Rattle.write_rules.specs.Box.{boxHeader, box, series}
 use Rattle.write_rules.specs.Signature.{signature}
@@ -29,18 +32,17 @@ use Rattle.write_rules.specs.Cdef.{cdefEntry, cdef, cdefContent}
 use Rattle.write_rules.specs.Jp2h.{jp2h, jp2hContent}
 use Rattle.write_rules.specs.Stream.{streamHeader}
 use Rattle.write_rules.specs.Writing.{front}
-use Rattle.write_rules.specs.RoundTrip.{depthCount, depthByte, RoundTrip, FileFits}
-use Rattle.write_rules.proofs.Numbers.{number-last}
-use Rattle.write_rules.proofs.Bounds.{Fit, accepted-fits, byte-most, byte-precision, one-depth, n-most, meth-cases, definition-most}
-use Rattle.write_rules.proofs.Lengths.{length-signature, length-type, length-ihdr, length-bpccContent, length-series, length-cdefEntry}
+use Rattle.write_rules.specs.RoundTrip.{depthByte, bpccBytes, SizeBack, DepthsBack, ColourBack, DefinedBack, ChannelsBack, AlwaysBack, RoundTrip, StreamLength, FileFits}
+use Rattle.write_rules.proofs.Numbers.{number-last, number-after}
+use Rattle.write_rules.proofs.Splitting.{lbox, tbox}
+use Rattle.write_rules.proofs.Bounds.{Fit, accepted-fits, wrapping-back, wrapping-most, byte-most, byte-precision, byte-sign, one-depth, n-most, no-space, meth-cases, definition-most}
+use Rattle.write_rules.proofs.Words.{empty, other-bits, one-byte, meth-enumerated, meth-profiled, space-is, all-defined, none-defined, colour-written, opacity-written, rest-written}
+use Rattle.write_rules.proofs.Lengths.{length-header, length-box, length-signature, length-type, length-ihdr, length-bpccContent, length-series, length-cdefEntry}
 use Rattle.write_rules.proofs.Children.{spec-two}
 use Rattle.write_rules.proofs.Header.{colrAt, cdefAt, bitsAt, iccAt, defsAt, bpcc-none, bpcc-some, icc-none, icc-some, cdef-none, cdef-some, children-most}
 use Rattle.write_rules.proofs.Places.{lies-right, lies-left, lies-content, number-lies, part-lies, number-series}
 use Rattle.write_rules.proofs.Whole.{whole, front-is, found, length-front, reads}
-
-empty : (l : List ℕ) → length l ≡ 0 → l ≡ []
-empty [] e = refl
-empty (x ∷ xs) e = absurd (omega arith)
+use Rattle.write_rules.proofs.Accepts.{space-length}
 
 grouped : (a b c d : List ℕ) → a ++ b ++ c ++ d ≡ a ++ (b ++ (c ++ d))
 grouped a b c d = simp append-assoc
@@ -80,13 +82,6 @@ module _ (r : Request) (fit : Fit r) (stream : List ℕ) where
   entry-back = refl
 
   -- the bytes of bpcc
-  count-back : bitsAt r .count ≡ depthCount r
-  unfolding depthCount
-  count-back =
-      decide (fieldsOf r .bpc ≠? varies)
-      (λ h. rw (bpcc-none r h .1) (row 0 _ h refl))
-      (λ h. rw (bpcc-some r h .1) (row 1 _ (h, tt) refl))
-
   depth-back : (i : ℕ) → i < bitsAt r .count → image.BPCi f (bitsAt r) i ≡ BPCi (r .components) i
   depth-back i =
       decide (fieldsOf r .bpc ≠? varies)
@@ -101,14 +96,43 @@ module _ (r : Request) (fit : Fit r) (stream : List ℕ) where
       ∙ rw at at (number-series (λ c. bytes 1 (BPCi (r .components) c)) 1 (λ c. length-bytes 1 (BPCi (r .components) c)) (r .count) i 0 1 l (omega arith))
       ∙ number-last 1 (BPCi (r .components) i) (omega arith) (byte-most r fit i l)))
 
-  -- the precision of each component
-  precise-back : (c : ℕ) → c < r .count → depthByte f (found r) c % 128 + 1 ≡ precision (r .components) c
+  -- the bits of each component
+  bits-back : (c : ℕ) → c < r .count → depthByte f (found r) c % 128 + 1 ≡ precision (r .components) c
   unfolding depthByte
-  precise-back c l =
+  bits-back c l =
       each (λ (b : ℕ). b % 128 + 1 ≡ precision (r .components) c) _ (
         (λ h. rw (depth-back c (rw (bpcc-some r h .1) l)) (byte-precision r fit c l)),
         λ h. let d = one-depth r fit h in rw (d .0) (byte-precision r fit 0 (fit .some) ∙ sym (d .1 c l)),
       )
+
+  -- and the sign of each that the file tells
+  signs-back : (c : ℕ) → c < r .count → SignTold r c → depthByte f (found r) c / 128 ≡ signOf (r .components) c
+  unfolding depthByte
+  signs-back c l told =
+      each (λ (b : ℕ). b / 128 ≡ signOf (r .components) c) _ (
+        (λ h. rw (depth-back c (rw (bpcc-some r h .1) l)) (byte-sign r fit c l)),
+        λ h.
+            let first : signOf (r .components) 0 ≡ signOf (r .components) c = ⊎-elim (λ e. sym e) (λ o. absurd (h (other-bits r (o .0) (o .1)))) told in
+            rw (one-depth r fit h .0) (byte-sign r fit 0 (fit .some) ∙ first),
+      )
+
+  depths-back : DepthsBack r f (found r)
+  depths-back =
+      record {
+        count = refl;
+        bits = λ c l. bits-back c (omega arith);
+        signs = λ c l told. signs-back c (omega (arith, fit .some)) told;
+        same = λ s. let one = one-byte r fit s in (one, bpcc-none r one .1);
+        other = λ c o. let many = other-bits r c o in (many, bpcc-some r many .1);
+      }
+
+  -- the bytes of bpcc, in the file and in the record
+  bpcc-moves : length (bpcc (r .components) (fieldsOf r)) ≡ bpccBytes (found r)
+  unfolding bpccBytes
+  bpcc-moves =
+      decide (fieldsOf r .bpc ≠? varies)
+      (λ h. let e = bpcc-none r h in rw (e .0, e .1) (row 0 _ refl refl))
+      (λ h. let e = bpcc-some r h in let s = fit .some in rw (e .0, e .1, length-box, length-bpccContent (r .components) (r .count)) (row 1 _ ((λ z. omega arith), tt) refl))
 
   -- the profile
   profile-back : part f (iccAt r .place) (iccAt r .place + iccAt r .count) ≡ r .profile
@@ -122,12 +146,21 @@ module _ (r : Request) (fit : Fit r) (stream : List ℕ) where
       let q : Lies f (colrAt r + 8 + 3) (specification (fieldsOf r) (r .profile)) = lies-right (bytes 1 (fieldsOf r .meth) ++ bytes 1 PREC ++ bytes 1 APPROX) (specification (fieldsOf r) (r .profile)) p (colrAt r + 8 + 3) (omega arith) in
       rw (icc-some r e) (part-lies (rw (spec-two r fit e) at q)))
 
+  colour-back : ColourBack r f (found r)
+  colour-back =
+      let moves = bpcc-moves in
+      record {
+        space = λ e. let one = meth-enumerated r e in (one, space-is r e, icc-none r one);
+        profiled = λ n.
+            let two = meth-profiled r n in
+            let at : colrAt r + 8 + 3 ≡ 73 + bpccBytes (found r) = omega arith in
+            (two, no-space r two, icc-some r two ∙ ap (λ (p : ℕ). span p (length (r .profile))) at);
+        profile = profile-back;
+      }
+
   -- the definitions
   abbrev piece : ℕ → List ℕ
   piece c = cdefEntry (writtenDefinition (r .components) (fieldsOf r .colours) c)
-
-  defs-back : defsAt r .count ≡ fieldsOf r .definitions
-  defs-back = decide (fieldsOf r .definitions =? 0) (λ h. rw (cdef-none r h .1) (sym h)) (λ h. rw (cdef-some r h .1) refl)
 
   module _ (some : fieldsOf r .definitions ≡ 0 → ⊥) (i : ℕ) (l : i < fieldsOf r .definitions) where
     abbrev place : ℕ
@@ -155,6 +188,44 @@ module _ (r : Request) (fit : Fit r) (stream : List ℕ) where
   definition-back : (i : ℕ) → i < fieldsOf r .definitions → order.definition f (defsAt r) i ≡ writtenDefinition (r .components) (fieldsOf r .colours) i
   definition-back i l = let some : fieldsOf r .definitions ≡ 0 → ⊥ = λ e. omega arith in rw (cdef-some r some .1) (definition-is some i l)
 
+  module _ (o : ℕ) (p : Opacity r o) where
+    list-back : defsAt r ≡ span (87 + bpccBytes (found r)) (r .count)
+    list-back =
+        let n = all-defined r o p in
+        let there = p .there in
+        let moves = bpcc-moves in
+        let colour = space-length r fit (p .enumerated) in
+        let at : cdefAt r + 8 + 2 ≡ 87 + bpccBytes (found r) = omega arith in
+        cdef-some r (λ z. omega arith) .1 ∙ ap₂ span at n
+
+    defined-back : DefinedBack r f (found r) o
+    defined-back =
+        let n = all-defined r o p in
+        let there = p .there in
+        let behind = p .behind in
+        record {
+          list = list-back;
+          colours = λ c l. definition-back c (omega arith) ∙ colour-written r o p c (omega arith);
+          opacity = definition-back o (omega arith) ∙ opacity-written r o p;
+          rest = λ c l b d. definition-back c (omega arith) ∙ rest-written r o p c l b d;
+        }
+
+  channels-back : ChannelsBack r f (found r)
+  channels-back = record { defined = defined-back; undefined = λ none. cdef-none r (none-defined r none) .1 }
+
+size-back : (r : Request) → Corners r → SizeBack r (found r)
+size-back r corners =
+    record {
+      height = wrapping-back (r .y1) (r .y0) (corners .bottom) (corners .top);
+      high = wrapping-most (r .y1) (r .y0);
+      width = wrapping-back (r .x1) (r .x0) (corners .right) (omega (arith, corners .left));
+      wide = wrapping-most (r .x1) (r .x0);
+    }
+
+always-back : (r : Request) → AlwaysBack (found r)
+unfolding withBit table
+always-back r = record { c = refl; unkc = refl; ipr = refl; precedence = refl; approximation = refl; held = refl; lab = refl; labs = refl; palette = refl; mappings = refl; status = refl }
+
 pub round-trip : RoundTrip
 round-trip r bs stream e h =
     let a = accepted-fits r bs e in
@@ -163,33 +234,33 @@ round-trip r bs stream e h =
       found r,
       reads r fit stream (rw (a .1) at h),
       record {
-        brand = refl;
-        version = refl;
-        compatible = refl;
-        entry = entry-back r fit stream;
-        height = refl;
-        width = refl;
-        count = refl;
-        bpc = refl;
-        c = refl;
-        unkc = refl;
-        ipr = refl;
-        depths = count-back r fit stream;
-        depth = λ i l. depth-back r fit stream i (rw (count-back r fit stream) l);
-        precise = precise-back r fit stream;
-        held = refl;
-        method = refl;
-        precedence = refl;
-        approximation = refl;
-        space = refl;
-        lab = refl;
-        profile = profile-back r fit stream;
-        definitions = defs-back r fit stream;
-        definition = definition-back r fit stream;
-        palette = refl;
-        mappings = refl;
+        filetype = record { brand = refl; version = refl; list = refl; entry = entry-back r fit stream };
+        size = size-back r;
+        depths = depths-back r fit stream;
+        colour = colour-back r fit stream;
+        channels = channels-back r fit stream;
+        always = always-back r;
       },
     )
+
+-- the numbers of a header that comes last
+header-last : (p c : List ℕ) → length c ≡ 8 → (number (p ++ c) (length (p ++ c) - 8) 4 ≡ number c 0 4) × (number (p ++ c) (length (p ++ c) - 4) 4 ≡ number c 4 4)
+header-last p c e =
+    let l = length-append p c in
+    let x : length (p ++ c) - 8 ≡ length p + 0 = omega arith in
+    let y : length (p ++ c) - 4 ≡ length p + 4 = omega arith in
+    (rw x (number-after p c 0 4), rw y (number-after p c 4 4))
+
+pub stream-length : StreamLength
+unfolding front
+stream-length r bs e =
+    let a = accepted-fits r bs e in
+    let small = a .0 .codestream in
+    let header = streamHeader (r .codestream) in
+    let last = header-last (signature ++ fileType ++ jp2h (r .components) (fieldsOf r) (r .profile)) header (length-header JP2C (r .codestream)) in
+    let l : number header 0 4 ≡ 8 + r .codestream = rw append-nil at (lbox JP2C (r .codestream) [] (omega arith) (omega arith)) in
+    let t : number header 4 4 ≡ 0x6a703263 = rw append-nil at (tbox JP2C (r .codestream) [] (omega arith) (omega arith)) in
+    rw (a .1) (last .0 ∙ l, last .1 ∙ t)
 
 pub file-fits : FileFits
 file-fits r bs stream e s =

@@ -1,4 +1,5 @@
 pub mod Request
+pub mod Words
 pub mod Setup
 pub mod Box
 pub mod Signature
@@ -10,6 +11,7 @@ pub mod Cdef
 pub mod Jp2h
 pub mod Stream
 pub mod Writing
+pub mod Accepts
 pub mod Refusals
 pub mod RoundTrip
 pub mod Cases
