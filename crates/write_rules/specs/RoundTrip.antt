@@ -62,7 +62,7 @@ pub record DefinedBack (r : Request) (f : List ℕ) (m : Jp2) (o : ℕ) : Type 0
   pub opacity : order.definition f (m .lists .cdef) o ≡ def o 1 0
   pub rest : (c : ℕ) → c < r .count → colourCount (r .space) ≤ c → (c ≡ o → ⊥) → order.definition f (m .lists .cdef) c ≡ def c 65535 65535
 
--- no component is the opacity: there are no definitions
+-- the channels: definitions where a component is the opacity, else none
 pub record ChannelsBack (r : Request) (f : List ℕ) (m : Jp2) : Type 0 where
   pub defined : (o : ℕ) → Opacity r o → DefinedBack r f m o
   pub undefined : ((o : ℕ) → Opacity r o → ⊥) → m .lists .cdef ≡ span 0 0
@@ -96,7 +96,7 @@ RoundTrip =
     (r : Request) (bs stream : List ℕ) → write r ≡ written bs → length bs + length stream ≤ 4294967295 →
     (m : Jp2) × (read (bs ++ stream) ≡ codestream (length bs) m) × ReadBack r (bs ++ stream) m
 
--- nothing is left open: of one file no two records are read back
+-- nothing is left open: what is read back is one record, all of its 41 numbers
 abbrev pub OneRecord : Type 0
 OneRecord = (r : Request) (f : List ℕ) (m n : Jp2) → Corners r → 1 ≤ r .count → ReadBack r f m → ReadBack r f n → m ≡ n
 
