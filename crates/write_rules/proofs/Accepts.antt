@@ -9,18 +9,18 @@ use lib.ListN.{length}
 use Rattle.box_number.proofs.Rows.{Says, each}
 use Rattle.box_number.proofs.Bytes.{length-bytes}
 use Rattle.box_number.proofs.Indices.{lowest-passes, lowest-none, lowest-past}
-use Rattle.box_kind.specs.declared.Jp2BoxType.the-variants.{BPCC, COLR, CDEF}
+use Rattle.box_kind.specs.declared.Jp2BoxType.the-variants.{COLR, CDEF}
 use Rattle.box_number.specs.Lowest.{lowest}
 use Rattle.write_rules.specs.declared.Encoder.the-variants.{Ready}
 use Rattle.write_rules.specs.Request.{Request}
 use Rattle.write_rules.specs.Words.{Corners, SameBits, OtherBits, Opacity}
 use Rattle.write_rules.specs.Setup.{wrapping, fieldsOf, ill, setUp}
-use Rattle.write_rules.specs.Bpcc.{bpcc, bpccContent}
+use Rattle.write_rules.specs.Bpcc.{bpcc}
 use Rattle.write_rules.specs.Colr.{colr, colrContent}
 use Rattle.write_rules.specs.Cdef.{cdef, cdefContent}
 use Rattle.write_rules.specs.Writing.{Writing, written, declined, writeFields, afterSetUp, write}
 use Rattle.write_rules.specs.Cases.{profiledBy, LongestProfile}
-use Rattle.write_rules.specs.Accepts.{Counted, Listed, Sound, AllSound, Sized, Short, Within, Needs, TableAnswer, by31, by29, by32, by33, by34, by30, passes, EveryAnswer, Accepts, OneNeed}
+use Rattle.write_rules.specs.Accepts.{Counted, Listed, Sound, AllSound, Sized, Within, Needs, TableAnswer, by31, by29, by32, by33, by34, by30, passes, EveryAnswer, Accepts, OneNeed}
 use Rattle.write_rules.proofs.Bounds.{Fit, bytesFor}
 use Rattle.write_rules.proofs.Words.{bits-or, other-bits, one-byte, profile-or, meth-enumerated, meth-profiled, opacity-or, all-defined, none-defined}
 use Rattle.write_rules.proofs.Lengths.{length-box, length-bpccContent, length-colrContent, length-cdefContent}

@@ -1,15 +1,12 @@
 -- What the round trip says leaves one record.
 -- Assumes nothing.
-use Prim.Native.Nat.{ℕ, _+_, _/_, _%_, _<_}
+use Prim.Native.Nat.{ℕ, _+_, _<_}
 use mathlib.Core.Path.{_≡_, refl, sym, ap, _∙_}
 use mathlib.Core.List.{List}
 use mathlib.Core.Logic.{inl}
 use native.Mathlib.Omega.{arith}
 use lib.ListN.{length}
 use Rattle.box_number.proofs.Rows.{row}
-use Rattle.read_record.specs.declared.Image.{Image}
-use Rattle.read_record.specs.declared.Colour.{Colour}
-use Rattle.read_record.specs.declared.Span.{Span}
 use Rattle.read_record.specs.declared.Jp2.{Jp2}
 use Rattle.read_record.specs.Record.{jp2, span, lists}
 use Rattle.write_rules.specs.Request.{Request}
@@ -17,18 +14,18 @@ use Rattle.write_rules.specs.Words.{Corners}
 use Rattle.write_rules.specs.RoundTrip.{depthByte, bpccBytes, ReadBack, OneRecord}
 use Rattle.write_rules.proofs.Words.{bits-or, profile-or, opacity-or}
 
--- one byte for all
-one-byte : (f : List ℕ) (m : Jp2) (c : ℕ) → (m .image .bpc ≡ 255 → ⊥) → m .image .bpc ≡ depthByte f m c
+-- where bpc is not 255 it is the byte for every component
+byte-is : (f : List ℕ) (m : Jp2) (c : ℕ) → (m .image .bpc ≡ 255 → ⊥) → m .image .bpc ≡ depthByte f m c
 unfolding depthByte
-one-byte f m c n = row 1 _ (n, tt) refl
+byte-is f m c n = row 1 _ (n, tt) refl
 
 module _ (r : Request) (f : List ℕ) (m n : Jp2) (corners : Corners r) (some : 0 < r .count) (a : ReadBack r f m) (b : ReadBack r f n) where
   bpc-same : m .image .bpc ≡ n .image .bpc
   bpc-same =
       bits-or r
       (λ s.
-      let x = one-byte f m 0 (a .depths .same s .0) in
-      let y = one-byte f n 0 (b .depths .same s .0) in
+      let x = byte-is f m 0 (a .depths .same s .0) in
+      let y = byte-is f n 0 (b .depths .same s .0) in
       let p = a .depths .bits 0 (omega arith) in
       let q = b .depths .bits 0 (omega arith) in
       let s = a .depths .signs 0 (omega arith) (inl refl) in

@@ -1,5 +1,5 @@
 -- What is written is read back: the record from reading holds what the request said, and nothing else. All of it is said in the numbers of the request (Words.antt) and of document 01, and nothing in
--- the writer's own definitions: who believes this page need not believe Setup.antt.
+-- the writer's own definitions: this page can be believed without believing Setup.antt.
 use Prim.Native.Nat.{ℕ, _+_, _-_, _/_, _%_, _≤_, _<_}
 use mathlib.Core.Path.{_≡_}
 use mathlib.Core.List.{List, [], _∷_, _++_}

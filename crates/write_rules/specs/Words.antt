@@ -1,4 +1,5 @@
--- What a request says, in document 01's words and numbers. The theorems on writing (Accepts.antt, RoundTrip.antt) use these words and none of Setup.antt's, so that who believes the theorems need not believe how the fields are made.
+-- What a request says, in document 01's words and numbers. The theorems on writing (Accepts.antt, RoundTrip.antt) use these words and none of Setup.antt's, so that they can be believed without
+-- believing how the fields are made.
 use Prim.Native.Nat.{ℕ, _≤_, _<_}
 use mathlib.Core.Path.{_≡_}
 use mathlib.Core.List.{[]}
@@ -17,7 +18,7 @@ pub record Corners (r : Request) : Type 0 where
 abbrev pub SameBits : Request → Type 0
 SameBits r = (c : ℕ) → c < r .count → precision (r .components) c ≡ precision (r .components) 0
 
--- component c has not
+-- component c has more bits than the first, or fewer
 abbrev pub OtherBits : Request → ℕ → Type 0
 OtherBits r c = (c < r .count) × (precision (r .components) c ≡ precision (r .components) 0 → ⊥)
 
