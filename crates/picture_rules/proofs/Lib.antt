@@ -21,3 +21,4 @@ pub mod Mets
 pub mod Demand3
 pub mod Telling
 pub mod Refusals
+pub mod Exactly

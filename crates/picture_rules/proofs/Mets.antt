@@ -1,10 +1,10 @@
--- The premises of demand 3 are met by two pictures, computed.
+-- The premises of demand 3 are met by four pictures, computed.
 -- Assumes nothing.
 use Prim.Native.Nat.{ℕ}
 use mathlib.Core.Path.{_≡_, refl, ap}
 use mathlib.Core.List.{List, [], _∷_}
 use native.Mathlib.Omega.{arith}
-use lib.ListN.{getD}
+use lib.ListN.{length, getD}
 use Rattle.box_number.specs.Number.{number, part}
 use Rattle.box_number.specs.Table.{table}
 use Rattle.box_kind.specs.Kind.{kindOf}
@@ -36,8 +36,21 @@ use Rattle.picture_rules.specs.Channels.{channels, componentOf, typeOf}
 use Rattle.picture_rules.specs.Samples.{displayed, lookup, valueFor, valueOf, channelSamples, packed, startOf}
 use Rattle.picture_rules.specs.Finish.{counted, expanded, picture, fitted, colourChecks, checks, finish}
 use Rattle.picture_rules.specs.Words.{Handed, Accepted}
-use Rattle.picture_rules.specs.Met.{otherwise-turned, directFile, directExample, directPlanes, palettedFile, paletted, palettedPlanes, Met, DirectMet, PaletteMet}
-use Rattle.picture_rules.proofs.Distinct.{once-pairwise, swapped, alike-parts}
+use Rattle.picture_rules.specs.Met.{otherwise-turned, directFile, directExample, directPlanes, palettedFile, paletted, palettedPlanes, single, singlePlanes, shared, sharedPlanes, Met, RuleMet, DirectMet, PaletteMet, SingleMet, SharedMet}
+use Rattle.picture_rules.proofs.Distinct.{DifferPairwise, once-pairwise, swapped, alike-parts}
+
+-- definitions at a place that differ pairwise
+module _ (h : Handed) (planes : Image) (m : Jp2) (p : ℕ) (d : Def) (ds : List Def) where
+  rule-met :
+      Accepted h m planes → h .settings .ignore ≡ 0 → m .lists .cdef ≡ span p (length (d ∷ ds)) → definitions (h .file) (span p (length (d ∷ ds))) ≡ d ∷ ds → DifferPairwise (d ∷ ds) →
+      RuleMet h planes
+  rule-met y applied place here differ =
+      record {
+        kept = m;
+        accepted = y;
+        defined = record { present = rw place (omega arith); applied = applied };
+        clear = rw (place, here) (once-pairwise (d ∷ ds) differ);
+      }
 
 -- three definitions at a place, and the first two exchanged
 module _ (h : Handed) (planes : Image) (g : List ℕ) (m : Jp2) (p : ℕ) where
@@ -53,12 +66,14 @@ module _ (h : Handed) (planes : Image) (g : List ℕ) (m : Jp2) (p : ℕ) where
   met :
       Accepted h m planes → h .settings .ignore ≡ 0 → m .lists .cdef ≡ span p 3 → definitions (h .file) (span p 3) ≡ a ∷ b ∷ c ∷ [] → definitions g (span p 3) ≡ b ∷ a ∷ c ∷ [] →
       Alike (h .file) g (range p 18) → (g ≡ h .file → ⊥) → Met h planes g
+  unfolding rule-met
   met y applied place here there alike other =
+      let r = rule-met h planes m p a (b ∷ c ∷ []) y applied place here (omega arith) in
       record {
         kept = m;
         accepted = y;
-        defined = record { present = rw place (omega arith); applied = applied };
-        clear = rw (place, here) (once-pairwise (a ∷ b ∷ c ∷ []) (omega arith));
+        defined = r .defined;
+        clear = r .clear;
         alike = record { reads = y .reading; alike = rw place alike; reordered = rw (place, here, there) (swapped a b (c ∷ [])) };
         other-order = other;
       }
@@ -84,3 +99,15 @@ unfolding computing
 palette-met =
     met paletted palettedPlanes (palettedFile otherwise-turned) (keptOf (given (read (paletted .file)))) 112 (record { reading = refl; finishing = refl }) refl refl refl refl
     (alike-parts (paletted .file) (palettedFile otherwise-turned) 112 18 refl refl refl) (λ e. omega (arith, ap (λ x. getD x 113 0) e))
+
+pub single-met : SingleMet
+unfolding computing
+single-met = rule-met single singlePlanes (keptOf (given (read (single .file)))) 72 (def 1 0 2) [] (record { reading = refl; finishing = refl }) refl refl refl (omega arith)
+
+pub shared-met : SharedMet
+unfolding computing
+shared-met =
+    rule-met shared sharedPlanes (keptOf (given (read (shared .file)))) 72
+    (def 6 0 1) (def 1 1 1 ∷ def 2 1 1 ∷ def 3 0 0 ∷ def 4 0 0 ∷ def 5 0 65535 ∷ def 0 0 65535 ∷ [])
+    (record { reading = refl; finishing = refl }) refl refl refl
+    (omega arith, (omega arith, (omega arith, (omega arith, (omega arith, (omega arith, omega arith))))))

@@ -10,9 +10,11 @@ pub mod Samples
 pub mod Check
 pub mod Finish
 pub mod Refusals
+pub mod Passing
 pub mod Words
 pub mod PictureRule
 pub mod EveryPicture
 pub mod OrderFreedom
 pub mod Cases
+pub mod FinishingCases
 pub mod Met

@@ -1,5 +1,5 @@
--- The premises of demand 3 can be met: small pictures, without a palette and with one, and the planes that they are finished to.
-use Prim.Native.Nat.{ℕ}
+-- The premises of demand 3 can be met, by as few definitions as there can be and by definitions of every sort: small pictures, without a palette and with one, and the planes that they are finished to.
+use Prim.Native.Nat.{ℕ, _*_}
 use mathlib.Core.Path.{_≡_}
 use mathlib.Core.List.{List, [], _∷_, _++_}
 use lib.IntN.{pos}
@@ -25,23 +25,28 @@ turned = definitionBytes 0 0 3 ++ definitionBytes 1 0 2 ++ definitionBytes 2 0 1
 abbrev pub otherwise-turned : List ℕ
 otherwise-turned = definitionBytes 1 0 2 ++ definitionBytes 0 0 3 ++ definitionBytes 2 0 1
 
-abbrev pub cdefBox : List ℕ → List ℕ
-cdefBox definitions = boxOf CDEF (two 3 ++ definitions)
+-- of n definitions
+abbrev pub cdefBox : ℕ → List ℕ → List ℕ
+cdefBox n definitions = boxOf CDEF (two n ++ definitions)
 
 -- a component of a width, 1 high and of 8 bits, with its first sample at an index
 abbrev pub planeRecord : ℕ → ℕ → List ℕ
 planeRecord wide start = 1 ∷ 1 ∷ wide ∷ 1 ∷ 0 ∷ 0 ∷ 8 ∷ 8 ∷ 0 ∷ 0 ∷ 0 ∷ start ∷ 0 ∷ []
 
--- with the file and the image, and room for three planes and their samples
-abbrev pub exampleOf : List ℕ → Image → ℕ → Handed
-exampleOf file picture room = record { file = file; image = picture; settings = settings 0; records = 39; samples = room }
+-- a component of one sample, and the record of a plane of one sample that has a mark
+abbrev pub pointRecord : ℕ → ℕ → List ℕ
+pointRecord start mark = 1 ∷ 1 ∷ 1 ∷ 1 ∷ 0 ∷ 0 ∷ 8 ∷ 8 ∷ 0 ∷ 0 ∷ 0 ∷ start ∷ mark ∷ []
+
+-- with the file and the image, and room for the numbers of so many planes and for so many samples
+abbrev pub exampleOf : List ℕ → Image → ℕ → ℕ → Handed
+exampleOf file picture planes room = record { file = file; image = picture; settings = settings 0; records = 13 * planes; samples = room }
 
 -- three components of one sample each
 abbrev pub directFile : List ℕ → List ℕ
-directFile definitions = fileOf (ihdrBox 3 ++ cdefBox definitions)
+directFile definitions = fileOf (ihdrBox 3 ++ cdefBox 3 definitions)
 
 abbrev pub directExample : Handed
-directExample = exampleOf (directFile turned) (image (planeRecord 1 0 ++ planeRecord 1 1 ++ planeRecord 1 2) 3 (pos 10 ∷ pos 20 ∷ pos 30 ∷ [])) 3
+directExample = exampleOf (directFile turned) (image (planeRecord 1 0 ++ planeRecord 1 1 ++ planeRecord 1 2) 3 (pos 10 ∷ pos 20 ∷ pos 30 ∷ [])) 3 3
 
 -- the third is the first plane
 abbrev pub directPlanes : Image
@@ -53,16 +58,46 @@ palettedFile definitions =
     fileOf (ihdrBox 1
     ++ boxOf PCLR (two 2 ++ 3 ∷ 7 ∷ 7 ∷ 7 ∷ 10 ∷ 20 ∷ 30 ∷ 40 ∷ 50 ∷ 60 ∷ [])
     ++ boxOf CMAP (mappingBytes 0 1 0 ++ mappingBytes 0 1 1 ++ mappingBytes 0 1 2)
-    ++ cdefBox definitions)
+    ++ cdefBox 3 definitions)
 
 abbrev pub paletted : Handed
-paletted = exampleOf (palettedFile turned) (image (planeRecord 2 0) 1 (pos 1 ∷ pos 0 ∷ [])) 6
+paletted = exampleOf (palettedFile turned) (image (planeRecord 2 0) 1 (pos 1 ∷ pos 0 ∷ [])) 3 6
 
 -- each channel has its column's entries, and the third is the first plane
 abbrev pub palettedPlanes : Image
 palettedPlanes = image (planeRecord 2 4 ++ planeRecord 2 2 ++ planeRecord 2 0) 3 (pos 40 ∷ pos 10 ∷ pos 50 ∷ pos 20 ∷ pos 60 ∷ pos 30 ∷ [])
 
--- a picture is accepted with some record, with definitions that are present, applied and clash nowhere; and another file is alike in all but their order
+-- two components and one definition, which leaves channel 0 undefined
+abbrev pub single : Handed
+single = exampleOf (fileOf (ihdrBox 2 ++ cdefBox 1 (definitionBytes 1 0 2))) (image (pointRecord 0 7 ++ pointRecord 1 7) 2 (pos 10 ∷ pos 20 ∷ [])) 2 2
+
+abbrev pub singlePlanes : Image
+singlePlanes = image (pointRecord 0 7 ++ pointRecord 1 0) 2 (pos 10 ∷ pos 20 ∷ [])
+
+-- definitions that clash nowhere, though they share numbers: colour 1, two channels of another type that go with it, two channels of type 0 that go with the whole image, and two with nothing
+abbrev pub shared : Handed
+shared =
+    exampleOf (fileOf (ihdrBox 7
+    ++ cdefBox 7
+    (definitionBytes 6 0 1 ++ definitionBytes 1 1 1 ++ definitionBytes 2 1 1 ++ definitionBytes 3 0 0 ++ definitionBytes 4 0 0 ++ definitionBytes 5 0 65535 ++ definitionBytes 0 0 65535)))
+    (image (pointRecord 0 7 ++ pointRecord 1 7 ++ pointRecord 2 7 ++ pointRecord 3 7 ++ pointRecord 4 7 ++ pointRecord 5 7 ++ pointRecord 6 7) 7
+    (pos 10 ∷ pos 20 ∷ pos 30 ∷ pos 40 ∷ pos 50 ∷ pos 60 ∷ pos 70 ∷ []))
+    7 7
+
+-- channel 6 is the first plane
+abbrev pub sharedPlanes : Image
+sharedPlanes =
+    image (pointRecord 6 7 ++ pointRecord 1 1 ++ pointRecord 2 1 ++ pointRecord 3 0 ++ pointRecord 4 0 ++ pointRecord 5 0 ++ pointRecord 0 0) 7
+    (pos 10 ∷ pos 20 ∷ pos 30 ∷ pos 40 ∷ pos 50 ∷ pos 60 ∷ pos 70 ∷ [])
+
+-- a picture is accepted with some record, with definitions that are present, applied and clash nowhere
+pub record RuleMet (h : Handed) (planes : Image) : Type 0 where
+  pub kept : Jp2
+  pub accepted : Accepted h kept planes
+  pub defined : Defined h kept
+  pub clear : Clear h kept
+
+-- and another file is alike in all but their order
 pub record Met (h : Handed) (planes : Image) (other : List ℕ) : Type 0 where
   pub kept : Jp2
   pub accepted : Accepted h kept planes
@@ -77,3 +112,10 @@ DirectMet = Met directExample directPlanes (directFile otherwise-turned)
 
 abbrev pub PaletteMet : Type 0
 PaletteMet = Met paletted palettedPlanes (palettedFile otherwise-turned)
+
+-- the picture rule speaks of one definition, and of definitions that share numbers and clash nowhere
+abbrev pub SingleMet : Type 0
+SingleMet = RuleMet single singlePlanes
+
+abbrev pub SharedMet : Type 0
+SharedMet = RuleMet shared sharedPlanes

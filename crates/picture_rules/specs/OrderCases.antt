@@ -1,4 +1,4 @@
--- The marked cases of document 01 on order, as one table that is computed whole. Planes are named by the record at their position; every record has mark 9 at the start.
+-- The marked cases of document 01 on order, and definitions that are passed over, as one table that is computed whole. Planes are named by the record at their position; every record has mark 9 at the start.
 use Prim.Native.Nat.{ℕ, zero, suc}
 use mathlib.Core.Path.{_≡_, refl}
 use mathlib.Core.List.{List, [], _∷_, _++_}
@@ -39,6 +39,24 @@ cases =
     -- (0,1,0), (1,0,1): B, A and A's mark 0; swapped, mark 1
     2 planes def 0 1 0 ∷ def 1 0 1 ∷ [] give B mark 9 ∷ A mark 0 ∷ [] ∣
     2 planes def 1 0 1 ∷ def 0 1 0 ∷ [] give B mark 9 ∷ A mark 1 ∷ [] ∣
+    -- a channel without a record: passed over, whatever its type and asoc; channel 1 of 2 has one
+    2 planes def 2 0 1 ∷ [] give A mark 9 ∷ B mark 9 ∷ [] ∣
+    2 planes def 2 1 2 ∷ def 2 1 0 ∷ def 2 1 65535 ∷ def 65535 1 0 ∷ [] give A mark 9 ∷ B mark 9 ∷ [] ∣
+    2 planes def 1 1 0 ∷ [] give A mark 9 ∷ B mark 1 ∷ [] ∣
+    2 planes def 1 0 1 ∷ [] give B mark 9 ∷ A mark 0 ∷ [] ∣
+    -- an asoc-1 without a record: nothing moves, and nothing is marked, of typ 0 or 1; asoc 2 of 2 has one
+    2 planes def 0 0 3 ∷ [] give A mark 9 ∷ B mark 9 ∷ [] ∣
+    2 planes def 0 1 3 ∷ [] give A mark 9 ∷ B mark 9 ∷ [] ∣
+    2 planes def 0 0 65534 ∷ def 1 1 65534 ∷ [] give A mark 9 ∷ B mark 9 ∷ [] ∣
+    2 planes def 0 0 2 ∷ [] give B mark 0 ∷ A mark 9 ∷ [] ∣
+    2 planes def 0 1 2 ∷ [] give A mark 1 ∷ B mark 9 ∷ [] ∣
+    -- those passed over change nothing for those after them
+    3 planes def 0 0 4 ∷ def 3 0 1 ∷ def 0 0 2 ∷ def 0 1 4 ∷ def 0 2 0 ∷ [] give B mark 0 ∷ A mark 2 ∷ C mark 9 ∷ [] ∣
+    -- asoc 0 and 65535 mark, whatever the type; a colour that is in its place is marked too
+    2 planes def 0 0 0 ∷ def 1 5 65535 ∷ [] give A mark 0 ∷ B mark 5 ∷ [] ∣
+    2 planes def 0 0 1 ∷ def 1 65535 1 ∷ [] give A mark 0 ∷ B mark 65535 ∷ [] ∣
+    -- no record at all
+    0 planes def 0 0 1 ∷ def 0 1 0 ∷ [] give [] ∣
     end
 
 -- the record of channel r before any definition
