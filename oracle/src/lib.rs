@@ -6,6 +6,7 @@
 //!
 //! - [`read`]: what `opj_jp2_read_header_procedure` makes of a file;
 //! - [`finish`]: what `opj_jp2_apply_color_postprocessing` makes of a picture, with the record from reading;
+//! - [`reorder`]: what `opj_jp2_apply_cdef` alone makes of components;
 //! - [`write`]: the bytes that the encoder's JP2 part puts before a codestream;
 //! - [`leaves`]: box kinds, box headers and numbers of 1 to 4 bytes, each by itself;
 //! - [`finished`]: what the port has to answer to a picture, by the crate and, where it says nothing, by document 01;
@@ -86,6 +87,7 @@ mod places;
 mod reading;
 mod record;
 mod refusal;
+mod reordering;
 mod walk;
 mod writing;
 pub mod written;
@@ -95,4 +97,5 @@ pub use finishing::{finish, Finishing};
 pub use picture::{Component, FinishingRequest, Plane, Props, Unaskable, NO_DATA};
 pub use reading::{read, Reading};
 pub use record::{Definition, Mapping, Palette, Profile, Record};
+pub use reordering::{reorder, Reordering};
 pub use writing::{write, Step, Writing, WritingRequest};

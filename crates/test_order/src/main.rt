@@ -1,4 +1,4 @@
-// Document 01's marked cases on order, over a lent list of four component records, a line each, and a case that is refused. The records past a case's planes are left.
+// Document 01's marked cases on order, definitions that are passed over, and a case that is refused, each over a lent list of four component records, a line each. The records past a case's planes are left.
 use picture_order::lent::Comp;
 use read_record::Span;
 
@@ -30,11 +30,32 @@ fn main() {
         2,
         2,
     );
+    passed_over();
     // more planes than there are records
     run(b"5 planes of 4 records: (0,0,0)", b"\0\0\0\0\0\0", 1, 5);
 }
 
-// A plane, by its name in `data`, and of no mark.
+// Definitions whose channel, or whose asoc - 1, has no record, and those just inside.
+fn passed_over() {
+    run(
+        b"A,B: (2,0,1),(2,1,0)",
+        b"\0\x02\0\0\0\x01\0\x02\0\x01\0\0",
+        2,
+        2,
+    );
+    run(b"A,B: (0,0,3)", b"\0\0\0\0\0\x03", 1, 2);
+    run(b"A,B: (0,1,3)", b"\0\0\0\x01\0\x03", 1, 2);
+    run(b"A,B: (0,1,2)", b"\0\0\0\x01\0\x02", 1, 2);
+    run(b"A,B: (0,0,2)", b"\0\0\0\0\0\x02", 1, 2);
+    run(
+        b"A,B,C: (3,1,0),(0,0,4),(0,0,2),(0,1,4),(0,2,0)",
+        b"\0\x03\0\x01\0\0\0\0\0\0\0\x04\0\0\0\0\0\x02\0\0\0\x01\0\x04\0\0\0\x02\0\0",
+        5,
+        3,
+    );
+}
+
+// A plane, by its name in `data`, and a mark that no definition sets.
 fn comp(name: u32) -> Comp {
     Comp {
         dx: 1,
@@ -49,7 +70,7 @@ fn comp(name: u32) -> Comp {
         resno_decoded: 0,
         factor: 0,
         data: name,
-        alpha: 0,
+        alpha: 9,
     }
 }
 

@@ -3,8 +3,8 @@
 use crate::request::{self, Malformed, Request};
 use oracle::leaves::{self, Header, Kind};
 use oracle::{
-    Finishing, Level, Message, Outcome, Palette, Plane, Profile, Reading, Record, Step, Writing,
-    WritingRequest,
+    Finishing, Level, Message, Outcome, Palette, Plane, Profile, Props, Reading, Record, Reordering,
+    Step, Writing, WritingRequest,
 };
 use std::fmt::Display;
 use std::io::{Result, Write};
@@ -12,6 +12,7 @@ use std::io::{Result, Write};
 pub enum Answer {
     Read(Box<Reading>),
     Finish { read: Outcome, finishing: Finishing },
+    Order(Reordering),
     Write(Writing),
     Header(std::result::Result<Header, String>),
     Kind(Kind),
@@ -43,6 +44,10 @@ pub fn run(request: &Request) -> std::result::Result<Answer, Malformed> {
                 finishing,
             }
         }
+        Request::Order {
+            components,
+            definitions,
+        } => Answer::Order(oracle::reorder(components, definitions)),
         Request::Write(request) => Answer::Write(oracle::write(&writing_request(request))),
         Request::Header { bytes, max } => Answer::Header(leaves::read_header(bytes, *max)),
         Request::Kind { number } => Answer::Kind(leaves::kind(*number)),
@@ -73,6 +78,7 @@ pub fn print(answer: &Answer, out: &mut impl Write) -> Result<()> {
     match answer {
         Answer::Read(reading) => print_reading(reading, out),
         Answer::Finish { read, finishing } => print_finishing(*read, finishing, out),
+        Answer::Order(reordering) => print_reordering(reordering, out),
         Answer::Write(writing) => print_writing(writing, out),
         Answer::Header(header) => print_header(header, out),
         Answer::Kind(kind) => {
@@ -180,8 +186,24 @@ fn print_finishing(read: Outcome, finishing: &Finishing, out: &mut impl Write) -
     print_messages(&finishing.messages, out)
 }
 
+fn print_reordering(reordering: &Reordering, out: &mut impl Write) -> Result<()> {
+    print_outcome(reordering.outcome, out)?;
+    write!(out, " count={}", reordering.components.len())?;
+    for (index, props) in reordering.components.iter().enumerate() {
+        print_props(index, props, out)?;
+    }
+    print_messages(&reordering.messages, out)
+}
+
 fn print_plane(index: usize, plane: &Plane, out: &mut impl Write) -> Result<()> {
-    let props = &plane.props;
+    print_props(index, &plane.props, out)?;
+    match &plane.samples {
+        None => write!(out, " plane{index}=none"),
+        Some(samples) => print_list(&format!(" plane{index}="), ",", samples, out),
+    }
+}
+
+fn print_props(index: usize, props: &Props, out: &mut impl Write) -> Result<()> {
     let numbers = [
         props.dx,
         props.dy,
@@ -196,11 +218,7 @@ fn print_plane(index: usize, plane: &Plane, out: &mut impl Write) -> Result<()> 
         props.factor,
         props.alpha.into(),
     ];
-    print_list(&format!(" comp{index}="), ",", numbers, out)?;
-    match &plane.samples {
-        None => write!(out, " plane{index}=none"),
-        Some(samples) => print_list(&format!(" plane{index}="), ",", samples, out),
-    }
+    print_list(&format!(" comp{index}="), ",", numbers, out)
 }
 
 fn print_writing(writing: &Writing, out: &mut impl Write) -> Result<()> {

@@ -1,6 +1,6 @@
 //! Requests, taken from their lines.
 
-use oracle::Component;
+use oracle::{Component, Definition};
 use std::str::FromStr;
 
 pub enum Request {
@@ -12,6 +12,10 @@ pub enum Request {
         ignore: bool,
         components: Vec<Component>,
         samples: Vec<i32>,
+    },
+    Order {
+        components: Vec<Component>,
+        definitions: Vec<Definition>,
     },
     Write(Write),
     Header {
@@ -74,6 +78,10 @@ pub fn parse(line: &str) -> Result<Request, Malformed> {
             ignore: fields.flag("ignore")?,
             components: fields.components()?,
             samples: fields.list("samples")?,
+        },
+        "order" => Request::Order {
+            components: fields.components()?,
+            definitions: fields.definitions()?,
         },
         "write" => Request::Write(parse_write(&mut fields)?),
         "header" => Request::Header {
@@ -168,6 +176,19 @@ impl<'a> Fields<'a> {
         let text = self.value("comps")?;
         let parts = text.split(';').filter(|_| !text.is_empty());
         parts.map(parse_component).collect()
+    }
+
+    fn definitions(&mut self) -> Result<Vec<Definition>, Malformed> {
+        let text = self.value("defs")?;
+        let parts = text.split(';').filter(|_| !text.is_empty());
+        parts.map(parse_definition).collect()
+    }
+}
+
+fn parse_definition(text: &str) -> Result<Definition, Malformed> {
+    match parse_list::<u16>(text)?[..] {
+        [cn, typ, asoc] => Ok(Definition { cn, typ, asoc }),
+        _ => Err(Malformed::new("a definition has 3 numbers")),
     }
 }
 

@@ -45,6 +45,21 @@ pub(crate) fn check_color(
     opj_jp2_check_color(image, color, manager) != 0
 }
 
+/// The color of a new decoder, with these definitions.
+pub(crate) fn color(info: Vec<opj_jp2_cdef_info>) -> opj_jp2_color {
+    let mut color = create(true).color.clone();
+    color.jp2_cdef = Some(opj_jp2_cdef { info });
+    color
+}
+
+pub(crate) fn apply_cdef(
+    image: &mut opj_image,
+    color: &mut opj_jp2_color,
+    manager: &mut opj_event_mgr,
+) {
+    opj_jp2_apply_cdef(image, color, manager)
+}
+
 pub(crate) fn apply_color_postprocessing(
     jp2: &mut opj_jp2,
     image: &mut opj_image,
