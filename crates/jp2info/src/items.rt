@@ -12,7 +12,7 @@ pub enum Item {
     Definition,
 }
 
-pub fn bytes(item: Item) -> usize {
+pub(crate) fn bytes(item: Item) -> usize {
     match item {
         Item::Code => 4,
         Item::Component => 1,
@@ -23,7 +23,7 @@ pub fn bytes(item: Item) -> usize {
 }
 
 // Item i of a list, whose bytes c begins with.
-pub fn show(json: bool, item: Item, i: usize, c: &[u8]) {
+pub(crate) fn show(json: bool, item: Item, i: usize, c: &[u8]) {
     comma(json, i);
     match item {
         Item::Code => code(json, c),
@@ -35,14 +35,14 @@ pub fn show(json: bool, item: Item, i: usize, c: &[u8]) {
 }
 
 // The comma before item i of a list of JSON.
-pub fn comma(json: bool, i: usize) {
+pub(crate) fn comma(json: bool, i: usize) {
     if i != 0 {
         say::text(json, b"|,");
     }
 }
 
 // The four letters of a brand.
-pub fn code(json: bool, c: &[u8]) {
+pub(crate) fn code(json: bool, c: &[u8]) {
     say::text(json, b" '|\"");
     say::quoted(json, box_number::part(c, 0, 4));
     say::text(json, b"'|\"");
@@ -64,7 +64,7 @@ fn column(json: bool, i: usize, c: &[u8]) {
 }
 
 // What a byte of BPC or BPCC says, for people.
-pub fn depth(json: bool, b: usize) {
+pub(crate) fn depth(json: bool, b: usize) {
     field(json, b"# bits, |", b % 128 + 1);
     sign(json, b / 128);
 }

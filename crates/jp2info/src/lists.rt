@@ -7,7 +7,7 @@ use read_record::Palette;
 use read_record::Span;
 
 // A list with the text before it. For people an empty list is not printed.
-pub fn list(json: bool, head: &[u8], item: Item, file: &[u8], list: Span) {
+pub(crate) fn list(json: bool, head: &[u8], item: Item, file: &[u8], list: Span) {
     begin(json, head, list.count);
     let c = box_number::part(file, list.place, file.len());
     each(json, item, c, list.count);
@@ -43,13 +43,13 @@ fn front(rest: &[u8], n: usize) -> usize
 }
 
 // The depths of a palette's columns.
-pub fn columns(json: bool, file: &[u8], p: Palette) {
+pub(crate) fn columns(json: bool, file: &[u8], p: Palette) {
     let list = box_number::part(file, p.place, file.len());
     each(json, Item::Column, list, p.columns as usize);
 }
 
 // The rows of a palette, which follow the depths.
-pub fn entries(json: bool, file: &[u8], p: Palette) {
+pub(crate) fn entries(json: bool, file: &[u8], p: Palette) {
     let list = box_number::part(file, p.place, file.len());
     let n = narrow(p.columns);
     let depths = box_number::part(list, 0, n as usize);

@@ -8,7 +8,7 @@ pub enum Loaded {
     Nothing,
 }
 
-pub fn load(name: &[u8], room: &mut [u8]) -> Loaded {
+pub(crate) fn load(name: &[u8], room: &mut [u8]) -> Loaded {
     let fd = os::open_read(name);
     if fd < 0 {
         failed(name);
@@ -48,7 +48,7 @@ fn failed(name: &[u8]) {
     os::fail(box_number::part(&d, 0, at));
 }
 
-pub fn complain(name: &[u8], reason: &[u8]) {
+pub(crate) fn complain(name: &[u8], reason: &[u8]) {
     let mut d = io::large_buffer();
     let at = head(&mut d, name);
     let at = text::text(&mut d, at, reason);

@@ -19,7 +19,7 @@ use read_record::Lab;
 use read_record::Palette;
 use read_record::Span;
 
-pub fn reading(json: bool, name: &[u8], file: &[u8], r: Reading) {
+pub(crate) fn reading(json: bool, name: &[u8], file: &[u8], r: Reading) {
     text(json, b"|{\"file\":\"");
     say::quoted(json, name);
     outcome(json, file, r);

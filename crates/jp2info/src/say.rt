@@ -2,7 +2,7 @@
 use crate::quote;
 use libc::STDOUT_FILENO;
 
-pub fn text(json: bool, piece: &[u8]) {
+pub(crate) fn text(json: bool, piece: &[u8]) {
     io::write_all(STDOUT_FILENO, form(json, piece));
 }
 
@@ -14,19 +14,19 @@ fn form(json: bool, piece: &[u8]) -> &[u8] {
 }
 
 // The end of what is said of a file. Where output no longer arrives, this is where it is noticed.
-pub fn end(json: bool) {
+pub(crate) fn end(json: bool) {
     if !io::write_all(STDOUT_FILENO, form(json, b"\n|}\n")) {
         os::fail(b"jp2info: standard output");
     }
 }
 
 // A piece in which # is replaced by a number.
-pub fn field(json: bool, piece: &[u8], n: usize) {
+pub(crate) fn field(json: bool, piece: &[u8], n: usize) {
     filled(form(json, piece), n, 0);
 }
 
 // A piece with two numbers.
-pub fn pair(json: bool, piece: &[u8], a: u32, b: u32) {
+pub(crate) fn pair(json: bool, piece: &[u8], a: u32, b: u32) {
     filled(form(json, piece), a as usize, b as usize);
 }
 
@@ -37,7 +37,7 @@ fn filled(shape: &[u8], a: usize, b: usize) {
 }
 
 // Line n of some lines, from 0; "unknown" where it is empty or not there.
-pub fn word(n: usize, lines: &[u8]) {
+pub(crate) fn word(n: usize, lines: &[u8]) {
     let s = text::line(lines, b'\n', n);
     if s.len() == 0 {
         io::write_all(STDOUT_FILENO, b"unknown");
@@ -47,27 +47,27 @@ pub fn word(n: usize, lines: &[u8]) {
 }
 
 // The same, for people alone.
-pub fn note(json: bool, n: usize, lines: &[u8]) {
+pub(crate) fn note(json: bool, n: usize, lines: &[u8]) {
     if !json {
         word(n, lines);
     }
 }
 
 // A text from outside: a file's name, of 4096 bytes at most, or a brand. It has room even where each byte takes six.
-pub fn quoted(json: bool, s: &[u8]) {
+pub(crate) fn quoted(json: bool, s: &[u8]) {
     let mut d = io::large_buffer();
     let n = quote::quote(&mut d, 0, json, s);
     io::write_all(STDOUT_FILENO, box_number::part(&d, 0, n));
 }
 
 // The values of a palette's row: 255 at most, of ten digits at most.
-pub fn row(json: bool, depths: &[u8], c: &[u8]) {
+pub(crate) fn row(json: bool, depths: &[u8], c: &[u8]) {
     let mut d = io::buffer();
     let n = text::row(&mut d, 0, &[between(json)], depths, c);
     io::write_all(STDOUT_FILENO, box_number::part(&d, 0, n));
 }
 
-pub fn join(json: bool, numbers: &[u32]) {
+pub(crate) fn join(json: bool, numbers: &[u32]) {
     let mut d = io::buffer();
     let n = text::join(&mut d, 0, &[between(json)], numbers);
     io::write_all(STDOUT_FILENO, box_number::part(&d, 0, n));

@@ -1,5 +1,5 @@
 // What --help prints.
-pub fn usage(fd: i32) {
+pub(crate) fn usage(fd: i32) {
     io::write_all(
         fd,
         b"usage: jp2info [--json] FILE..\n\

@@ -13,7 +13,7 @@ const MOST: u32 = 0xffffffff;
 // The last place that a usize can name.
 const FAR: usize = 0xffff_ffff_ffff_ffff;
 
-pub fn all() {
+pub(crate) fn all() {
     // a cut header is answered before a high word, and before a length of 0 inside jp2h
     each_beginning(b"\x00\x00\x00\x01jp2c\x00\x00\x00\x01\x00\x00\x00\x10");
     each_beginning(b"\x00\x00\x00\x00jp2c");

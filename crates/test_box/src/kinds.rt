@@ -36,7 +36,7 @@ const NUMBERS: [u32; 28] = [
     0xffffffff,
 ];
 
-pub fn all() {
+pub(crate) fn all() {
     let numbers = NUMBERS;
     each_number(&numbers);
     kind(Jp2BoxType::None);
@@ -69,7 +69,7 @@ fn kind(ty: Jp2BoxType) {
     );
 }
 
-pub fn name(ty: Jp2BoxType) {
+pub(crate) fn name(ty: Jp2BoxType) {
     if let Jp2BoxType::Unknown(value) = ty {
         text(b"Unknown ");
         hex(value);

@@ -1,11 +1,11 @@
 // Texts and numbers of kinds on standard output.
 use libc::STDOUT_FILENO;
 
-pub fn text(s: &[u8]) {
+pub(crate) fn text(s: &[u8]) {
     io::write_all(STDOUT_FILENO, s);
 }
 
 // The number of a kind.
-pub fn hex(n: u32) {
+pub(crate) fn hex(n: u32) {
     io::print_hex(STDOUT_FILENO, n as u64, 8);
 }

@@ -5,7 +5,7 @@ use read_record::Jp2;
 use read_record::Outcome;
 use test_lines::say;
 
-pub fn came(case: &[u8], r: Outcome) -> Jp2 {
+pub(crate) fn came(case: &[u8], r: Outcome) -> Jp2 {
     io::write_all(STDOUT_FILENO, case);
     let a = r.answer;
     answer(a);

@@ -7,19 +7,19 @@ pub const JP2C: u32 = 0x6a703263;
 pub const FREE: u32 = 0x66726565;
 
 // LBox and TBox.
-pub fn head(d: &mut [u8], at: u32, length: u32, ty: u32) {
+pub(crate) fn head(d: &mut [u8], at: u32, length: u32, ty: u32) {
     box_number::opj_write_bytes(d, at as usize, length, 4);
     box_number::opj_write_bytes(d, at as usize + 4, ty, 4);
 }
 
 // LBox 1, TBox and XLBox.
-pub fn extended(d: &mut [u8], at: u32, ty: u32, length: u32) {
+pub(crate) fn extended(d: &mut [u8], at: u32, ty: u32, length: u32) {
     head(d, at, 1, ty);
     box_number::opj_write_bytes(d, at as usize + 12, length, 4);
 }
 
 // The signature, and ftyp with one entry in its list.
-pub fn start(d: &mut [u8]) {
+pub(crate) fn start(d: &mut [u8]) {
     text::text(
         d,
         0,
@@ -28,7 +28,7 @@ pub fn start(d: &mut [u8]) {
 }
 
 // All but the content of jp2h, a box of a length, which begins at 40. Gives the file's length.
-pub fn picture(d: &mut [u8], length: u32) -> usize {
+pub(crate) fn picture(d: &mut [u8], length: u32) -> usize {
     start(d);
     head(d, 32, length, 0x6a703268);
     text::text(d, length as usize + 32, b"\0\0\0\x08jp2c");
@@ -36,19 +36,19 @@ pub fn picture(d: &mut [u8], length: u32) -> usize {
 }
 
 // Height 3, width 2, the count, 8 bits.
-pub fn ihdr(d: &mut [u8], at: u32, length: u32, count: u32) {
+pub(crate) fn ihdr(d: &mut [u8], at: u32, length: u32, count: u32) {
     head(d, at, length, IHDR);
     text::text(d, at as usize + 8, b"\0\0\0\x03\0\0\0\x02\0\0\x07\x07");
     box_number::opj_write_bytes(d, at as usize + 16, count, 2);
 }
 
 // Method 1, and the colour space grey.
-pub fn colr(d: &mut [u8], at: u32) {
+pub(crate) fn colr(d: &mut [u8], at: u32) {
     text::text(d, at as usize, b"\0\0\0\x0fcolr\x01\0\0\0\0\0\x11");
 }
 
 // One column of a width byte, after an ihdr; all entries are 0.
-pub fn pclr(d: &mut [u8], length: u32, entries: u32, width: u32) {
+pub(crate) fn pclr(d: &mut [u8], length: u32, entries: u32, width: u32) {
     head(d, 62, length, 0x70636c72);
     box_number::opj_write_bytes(d, 70, entries, 2);
     box_number::opj_write_bytes(d, 72, 1, 1);

@@ -3,7 +3,7 @@ use libc::STDOUT_FILENO;
 use read_file::FileAnswer;
 use test_lines::say;
 
-pub fn came(case: &[u8], file: &[u8]) {
+pub(crate) fn came(case: &[u8], file: &[u8]) {
     io::write_all(STDOUT_FILENO, case);
     let r = read_file::read_file(file);
     let a = r.answer;

@@ -5,7 +5,7 @@ use picture_order::lent::Comp;
 use read_record::Answer;
 use test_lines::say;
 
-pub fn came(case: &[u8], r: Four) {
+pub(crate) fn came(case: &[u8], r: Four) {
     io::write_all(STDOUT_FILENO, case);
     let a = r.answer;
     answer(a);
