@@ -13,7 +13,13 @@ const ANSWER_NUMBER: usize = 1;
 const DIFFERING: usize = 31;
 
 // The count of the tally for picture i: DIFFERING where it differs or the list has ended, else 0 or the number of the refusal.
-pub fn outcome(i: u32, picture: &[u8], answer: &[u64], records: &[u32], planes: &[i32]) -> usize {
+pub(crate) fn outcome(
+    i: u32,
+    picture: &[u8],
+    answer: &[u64],
+    records: &[u32],
+    planes: &[i32],
+) -> usize {
     if picture.len() == 0 {
         return differs(b"case #: the list has ended\n", i, 0);
     }

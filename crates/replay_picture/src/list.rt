@@ -4,6 +4,7 @@ ghost use Prim.Native.Nat.{_≤_};
 ghost use mathlib.Core.Path.{_≡_};
 ghost use mir.Syntax.{w32};
 ghost use mir.Val.{toZ};
+ghost use Rattle.replay_picture.specs.Private.Listed.{numberAt, numbersOf, behindNumbers, fileOf, flagOf, componentsOf, samplesOf, roomsOf, answerNumber, recordsOf, planesOf};
 use test_lines::say;
 
 // The bytes of a component's 13 numbers.
@@ -13,7 +14,9 @@ const RECORD_BYTES: usize = 52;
 const ROOMS_BYTES: usize = 28;
 
 // Number i of those in front.
-pub fn number(s: &[u8], i: usize) -> u32 {
+pub(crate) fn number(s: &[u8], i: usize) -> u32
+    ensures { λ r. ⌜ r ≡ numberAt (now (s .entry)) i ⌝ }
+{
     if i < s.len() / 4 {
         box_number::read_u32(s, i * 4)
     } else {
@@ -34,40 +37,56 @@ pub fn length(s: &[u8], i: usize, most: usize) -> usize
 }
 
 // The numbers of a list that begins with its length, and no more.
-pub fn numbers(s: &[u8]) -> &[u8] {
+pub(crate) fn numbers(s: &[u8]) -> &[u8]
+    ensures { λ r. ⌜ now r ≡ numbersOf (now (s .entry)) ⌝ }
+{
     box_number::part(s, 4, number(s, 0) as usize * 4 + 4)
 }
 
-fn behind_numbers(s: &[u8]) -> &[u8] {
+fn behind_numbers(s: &[u8]) -> &[u8]
+    ensures { λ r. ⌜ now r ≡ behindNumbers (now (s .entry)) ⌝ }
+{
     box_number::part(s, number(s, 0) as usize * 4 + 4, s.len())
 }
 
 // The file, and no more.
-pub fn file(picture: &[u8]) -> &[u8] {
+pub(crate) fn file(picture: &[u8]) -> &[u8]
+    ensures { λ r. ⌜ now r ≡ fileOf (now (picture .entry)) ⌝ }
+{
     box_number::part(picture, 4, number(picture, 0) as usize + 4)
 }
 
 // The ignore flag and the number of components.
-pub fn flag(picture: &[u8]) -> &[u8] {
+pub(crate) fn flag(picture: &[u8]) -> &[u8]
+    ensures { λ r. ⌜ now r ≡ flagOf (now (picture .entry)) ⌝ }
+{
     box_number::part(picture, number(picture, 0) as usize + 4, picture.len())
 }
 
-pub fn components(picture: &[u8]) -> &[u8] {
+pub(crate) fn components(picture: &[u8]) -> &[u8]
+    ensures { λ r. ⌜ now r ≡ componentsOf (now (picture .entry)) ⌝ }
+{
     let s = flag(picture);
     box_number::part(s, 8, s.len())
 }
 
-pub fn samples(picture: &[u8]) -> &[u8] {
+pub(crate) fn samples(picture: &[u8]) -> &[u8]
+    ensures { λ r. ⌜ now r ≡ samplesOf (now (picture .entry)) ⌝ }
+{
     behind_numbers(components(picture))
 }
 
 // The lengths of both destinations, then the answer: kind, number, the place's high and low word, the number of planes.
-pub fn rooms(picture: &[u8]) -> &[u8] {
+pub(crate) fn rooms(picture: &[u8]) -> &[u8]
+    ensures { λ r. ⌜ now r ≡ roomsOf (now (picture .entry)) ⌝ }
+{
     behind_numbers(samples(picture))
 }
 
 // Number k of the answer, whose place has two words.
-pub fn answer_number(picture: &[u8], k: usize) -> u64 {
+pub(crate) fn answer_number(picture: &[u8], k: usize) -> u64
+    ensures { λ r. ⌜ r ≡ answerNumber (now (picture .entry)) k ⌝ }
+{
     let s = rooms(picture);
     match k {
         0 => number(s, 2) as u64,
@@ -78,7 +97,9 @@ pub fn answer_number(picture: &[u8], k: usize) -> u64 {
 }
 
 // The finished records, and no more.
-pub fn records(picture: &[u8]) -> &[u8] {
+pub(crate) fn records(picture: &[u8]) -> &[u8]
+    ensures { λ r. ⌜ now r ≡ recordsOf (now (picture .entry)) ⌝ }
+{
     let s = rooms(picture);
     box_number::part(
         s,
@@ -88,7 +109,9 @@ pub fn records(picture: &[u8]) -> &[u8] {
 }
 
 // The finished samples.
-pub fn planes(picture: &[u8]) -> &[u8] {
+pub(crate) fn planes(picture: &[u8]) -> &[u8]
+    ensures { λ r. ⌜ now r ≡ planesOf (now (picture .entry)) ⌝ }
+{
     let s = rooms(picture);
     box_number::part(
         s,
