@@ -8,15 +8,19 @@
  *   cuzhantir_picture   both in one step
  *   cuzhantir_write     writes all boxes before a codestream, and the header of the codestream's own box
  *
- * Link target/staticlib/libcuzhantir.a (x86-64, Linux), which `rt staticlib cuzhantir` writes.
+ * Link target/staticlib/libcuzhantir.a (x86-64, Linux), which `tools/rt-once staticlib cuzhantir` proves and writes.
  *
- * The answer. Each entry returns 0 when it was taken to an end, else one number of `enum cuzhantir_number`. The same
+ * The answer. Each entry returns 0 when it did its work, else one number of `enum cuzhantir_number`, the refusal. The same
  * number, and the place that goes with it, are in the list `reading` or `answer`. The place is one of these:
  *
  *   box offset     where the header of the box at fault starts, counted from the file's first byte
  *   index          the lowest definition, channel, mapping or component at fault, counted from 0
  *   needed length  how many elements the list at fault would have to have
  *   0              where none is named
+ *
+ * Hand in the whole file. Boxes may come in almost any order and behind large ones, and the file's length is part of what
+ * is read: the first part of a file can be answered differently, also with 0. A file that ends before a codestream, such as
+ * an empty one, is not refused. Reading returns 0 for it and says CUZHANTIR_READING_ENDED, which a caller has to test.
  *
  * No entry trusts its caller. Whatever bytes and numbers the lists hold, an entry returns, and reads and writes inside
  * them only; this is proved of the source. A refusal changes no destination: of all lists it changes only `reading` or
@@ -63,7 +67,7 @@ extern "C" {
  * list outside the file, or one that its reader would refuse; or a list that is no reading.
  */
 enum cuzhantir_number {
-  CUZHANTIR_DONE = 0,                     /* taken to an end */
+  CUZHANTIR_DONE = 0,                     /* no refusal */
   CUZHANTIR_FILE_TOO_LONG = 1,            /* the file has over 4294967295 bytes; 0 */
   CUZHANTIR_CODESTREAM_BEFORE_HEADER = 2, /* a codestream, and neither a jp2h nor a skipped box before it; box offset */
   CUZHANTIR_LENGTH_BELOW_HEADER = 3,      /* a box is shorter than its own header; box offset */
@@ -103,7 +107,7 @@ enum cuzhantir_number {
 /* What a reading came to: number CUZHANTIR_READING_KIND. */
 enum cuzhantir_reading_kind {
   CUZHANTIR_READING_CODESTREAM = 0, /* the value is the offset of the codestream, after its box's header */
-  CUZHANTIR_READING_ENDED = 1,      /* the file ended before a codestream, which is no refusal */
+  CUZHANTIR_READING_ENDED = 1,      /* the file ended before a codestream, which is no refusal; the record is what was read */
   CUZHANTIR_READING_REFUSED = 2     /* the value is the number, and the place goes with it; the record is all 0 */
 };
 
@@ -123,7 +127,7 @@ enum cuzhantir_reading {
   CUZHANTIR_READING_C = 7,           /* ihdr: compression */
   CUZHANTIR_READING_UNKC = 8,        /* ihdr: whether the colour space is unknown */
   CUZHANTIR_READING_IPR = 9,         /* ihdr: whether there is a box on rights */
-  CUZHANTIR_READING_METH = 10,       /* colr: 1 enumerated, 2 profile */
+  CUZHANTIR_READING_METH = 10,       /* colr: 1 enumerated, 2 profile; any other number where no colour is held */
   CUZHANTIR_READING_PRECEDENCE = 11, /* colr */
   CUZHANTIR_READING_APPROX = 12,     /* colr */
   CUZHANTIR_READING_ENUMCS = 13, /* colr: 16 sRGB, 17 grey, 18 sYCC, 14 CIELab, or any other number */
@@ -178,6 +182,9 @@ enum cuzhantir_answer {
 /*
  * The numbers of a component, and of a finished plane: the fields of opj_image_comp in their order. The sample at row y,
  * column x is at data + y * w + x of the list of samples.
+ *
+ * The mark. For writing, a component with any mark but 0 is the opacity of the picture (see cuzhantir_write). Of a finished
+ * plane the mark does not say whether it is opacity: go by the definitions, as cuzhantir_finish describes.
  */
 enum cuzhantir_component {
   CUZHANTIR_COMPONENT_DX = 0,
@@ -192,7 +199,7 @@ enum cuzhantir_component {
   CUZHANTIR_COMPONENT_RESNO_DECODED = 9,
   CUZHANTIR_COMPONENT_FACTOR = 10,
   CUZHANTIR_COMPONENT_DATA = 11,  /* the first sample's index, or CUZHANTIR_NO_SAMPLES */
-  CUZHANTIR_COMPONENT_ALPHA = 12, /* the mark: 0 colour, 1 opacity, 2 opacity that was multiplied in */
+  CUZHANTIR_COMPONENT_ALPHA = 12, /* the mark, see above */
   CUZHANTIR_COMPONENT_LENGTH = 13 /* how many numbers a component has */
 };
 
@@ -216,19 +223,29 @@ enum cuzhantir_bytes {
 /*
  * Reads the boxes of a file up to its codestream. `reading` gets 44 numbers (enum cuzhantir_reading); a longer list keeps
  * the rest, and a shorter one is left alone: CUZHANTIR_DESTINATION_TOO_SHORT. The codestream itself is not looked at.
- * Returns 0 for CUZHANTIR_READING_CODESTREAM and CUZHANTIR_READING_ENDED, else the number of the refusal, 1 to 24.
+ * Returns 0 for CUZHANTIR_READING_CODESTREAM and CUZHANTIR_READING_ENDED, else the number of the refusal, 1 to 24. A
+ * codestream may be reached without an ihdr, where another box was skipped before: CUZHANTIR_READING_NUMCOMPS is then 0.
  */
 uint32_t cuzhantir_read(const uint8_t *file, size_t file_len, uint64_t *reading, size_t reading_len);
 
 /*
  * Finishes a picture: looks samples up in the file's palette, packs all channels and puts their records in the order of the
- * file's definitions.
+ * file's definitions. Where the file has a palette and mappings, there is a channel for each column of the palette, with the
+ * column's precision and sign, also where a mapping uses a component directly; else each component is a channel.
+ *
+ * Which plane is which. The channel that a definition calls colour k (typ 0, asoc k) is on plane k - 1, counted from 0,
+ * where the definitions name no channel and no colour twice. Without definitions channel c is on plane c. Samples are packed
+ * in the order of the channels and only records are moved, so a plane's data tells its channel, and the channel's definition
+ * tells what the plane is (cuzhantir_definition_at; include/test/show_order.c does so). Do not go by the marks of finished
+ * planes: each definition sets a mark, and a later one may set it again after the record has moved. With the definitions
+ * (0, 1, 0), (1, 0, 1), opacity and then a colour, both planes have mark 0; in the other order the second has 1.
  *
  * file, reading   the file, and what cuzhantir_read gave for it, of which palette, mappings and definitions are looked at.
  *                 A refused reading is answered with its own number and place. A list that is no reading (shorter than 44
  *                 numbers, or with a kind, a number of a refusal or a size of the palette that no reading has), and a
- *                 reading whose lists do not lie in the file, are CUZHANTIR_OUTSIDE_LIST. That the reading is of this
- *                 file nobody can tell
+ *                 reading whose lists do not lie in the file, are CUZHANTIR_OUTSIDE_LIST. Nothing tests that the reading
+ *                 is of this file. One that ended before a codestream is taken too, with what was read: with that of an
+ *                 empty file the components are copied
  * ignore          not 0: palette, mappings and definitions count for nothing, and the components are copied
  * comps, count    13 numbers for each of `count` components (enum cuzhantir_component); further numbers are not looked at
  * samples         the samples of all components
@@ -242,20 +259,31 @@ uint32_t cuzhantir_finish(const uint8_t *file, size_t file_len, const uint64_t *
                           const int32_t *samples, size_t samples_len, uint32_t *records, size_t records_len,
                           int32_t *planes, size_t planes_len, uint64_t *answer, size_t answer_len);
 
-/* Reads a file and finishes its picture: cuzhantir_read and cuzhantir_finish in one step, with the same answer. */
+/*
+ * Reads a file and finishes its picture: cuzhantir_read and cuzhantir_finish in one step, with the same answer. A file that
+ * ends before a codestream is finished with what was read of it, and 0 is returned; cuzhantir_read tells the two apart.
+ */
 uint32_t cuzhantir_picture(const uint8_t *file, size_t file_len, uint32_t ignore, const uint32_t *comps,
                            size_t comps_len, uint32_t count, const int32_t *samples, size_t samples_len,
                            uint32_t *records, size_t records_len, int32_t *planes, size_t planes_len, uint64_t *answer,
                            size_t answer_len);
 
 /*
- * Writes signature, file type, jp2h (ihdr; bpcc where precisions differ; colr; cdef where exactly one component is marked
- * and is none of the colours) and the header of the codestream's box. The codestream itself goes behind them.
+ * Writes signature, file type, jp2h (ihdr; bpcc where precisions differ; colr; cdef, see below) and the header of the
+ * codestream's box. The codestream itself goes behind them.
+ *
+ * A cdef is written where all of this holds: exactly one component has a mark that is not 0; the colour space is
+ * CUZHANTIR_SPACE_SRGB, CUZHANTIR_SPACE_GREY or CUZHANTIR_SPACE_SYCC; the marked component comes after the colours (three,
+ * one, three); and there is no profile. It then defines the colours in their order, that component as the opacity of the
+ * whole picture, whatever its mark, and any other component as not told. In all other cases the marks are not written, and
+ * this is no refusal: the file then does not tell which component is opacity. Nor are the signs of components after the
+ * first written where all precisions are equal.
  *
  * comps, count    as for finishing; only precision, sign and mark are looked at
  * x0, y0, x1, y1  the corners of the picture's area: width x1 - x0 and height y1 - y0, wrapping at 2^32
  * space           enum cuzhantir_space, or any other number
- * profile         an ICC profile, which goes before the colour space; length 0 for none
+ * profile         an ICC profile, of any bytes; length 0 for none. A file with a profile has neither the colour space nor a
+ *                 cdef: opacity is lost
  * codestream      how many bytes the codestream has, its box's header not among them
  * d               gets the bytes
  * answer          as for finishing; its last number is how many bytes were written, which is also the codestream's offset
@@ -267,8 +295,8 @@ uint32_t cuzhantir_write(const uint32_t *comps, size_t comps_len, uint32_t count
 /* A definition of the file. */
 struct cuzhantir_definition {
   uint32_t channel;
-  uint32_t typ;  /* 0 colour, 1 opacity, 2 opacity that was multiplied in, 65535 not told */
-  uint32_t asoc; /* 0 the whole picture, 65535 none, else the colour's number, counted from 1 */
+  uint32_t typ;  /* 0 colour, 1 opacity, 2 opacity that was multiplied in, 65535 not told; or any other number */
+  uint32_t asoc; /* 0 the whole picture, 65535 none, else the colour's number, from 1; colour k is for plane k - 1 */
 };
 
 /* A mapping of the file as it is. Finishing takes all for palette mappings, each to its own column, where there
@@ -285,8 +313,8 @@ static inline uint32_t cuzhantir_two(const uint8_t *file, size_t at) {
   return high * 256u + file[at + 1];
 }
 
-/* The place of element n of a list with a place and a count, of elements of a given size in bytes; 0, where no list is, if
-   it has none or the element does not lie in the file. */
+/* The place of element n of a list with a place and a count, of elements of a given size in bytes. It is 0, a place that no
+   list has, where the list has no such element or the element does not lie in the file. */
 static inline size_t cuzhantir_element(size_t file_len, uint64_t place, uint64_t count, uint64_t n, uint64_t bytes) {
   if (n >= count || place > file_len || n >= (file_len - place) / bytes) {
     return 0;
@@ -294,7 +322,8 @@ static inline size_t cuzhantir_element(size_t file_len, uint64_t place, uint64_t
   return place + n * bytes;
 }
 
-/* Gives definition n, counted from 0, of a file that was read; 1 for given, 0 where there is none. */
+/* Gives definition n, counted from 0, of a file that was read; 1 for given, 0 where there is none. A refused reading has none
+   either: test the reading's kind before this is taken for a file without definitions. */
 static inline int cuzhantir_definition_at(const uint8_t *file, size_t file_len, const uint64_t *reading, uint64_t n,
                                           struct cuzhantir_definition *given) {
   size_t at = cuzhantir_element(file_len, reading[CUZHANTIR_READING_CDEF_PLACE], reading[CUZHANTIR_READING_CDEF_COUNT],
@@ -326,7 +355,7 @@ static inline int cuzhantir_mapping_at(const uint8_t *file, size_t file_len, con
 static inline const char *cuzhantir_cause(uint64_t number) {
   switch (number) {
   case CUZHANTIR_DONE:
-    return "taken to an end";
+    return "no refusal";
   case CUZHANTIR_FILE_TOO_LONG:
     return "the file has over 4294967295 bytes";
   case CUZHANTIR_CODESTREAM_BEFORE_HEADER:

@@ -1,55 +1,132 @@
-/* Shows which plane of a JP2 file is which: show_order FILE */
+/*
+ * Shows which channel of a JP2 file is on which plane once its picture is finished, and what it is: show_order FILE
+ *
+ * Exit status: 0 shown; 1 the file is refused, ends before a codestream or cannot be read; 2 usage.
+ */
 #include "cuzhantir_jp2.h"
 
+#include <errno.h>
 #include <stdio.h>
+#include <stdlib.h>
+#include <string.h>
 
-static const char *plane_of(struct cuzhantir_definition d) {
-  if (d.typ == 1 || d.typ == 2) {
-    return "opacity";
+#define MOST_CHANNELS 16384
+
+/* All bytes of a file, for the caller to free, or NULL and the cause in errno. A part of a file would not do: the boxes in
+   question may stand behind large ones, and what a reading answers depends on the file's length. */
+static uint8_t *whole_file(const char *name, size_t *length) {
+  FILE *f = fopen(name, "rb");
+  uint8_t *bytes = NULL;
+  size_t room = 65536;
+  int fault = 0;
+  *length = 0;
+  if (f == NULL) {
+    return NULL;
   }
-  if (d.typ != 0) {
-    return "not told";
+  do {
+    uint8_t *longer = (uint8_t *)realloc(bytes, room *= 2);
+    if (longer == NULL) {
+      fault = ENOMEM;
+      break;
+    }
+    bytes = longer;
+    *length += fread(bytes + *length, 1, room - *length, f);
+  } while (*length == room);
+  if (ferror(f)) {
+    fault = errno;
   }
-  switch (d.asoc) {
-  case 1:
-    return "first colour (red, grey or Y)";
-  case 2:
-    return "second colour (green or Cb)";
-  case 3:
-    return "third colour (blue or Cr)";
-  default:
-    return "another colour";
+  fclose(f);
+  if (fault != 0) {
+    free(bytes);
+    errno = fault;
+    return NULL;
   }
+  return bytes;
+}
+
+/* What a channel is. Its definition says it; the mark of a finished plane does not (see cuzhantir_finish). */
+static void show_channel(const uint8_t *file, size_t length, const uint64_t *reading, uint32_t channel) {
+  static const char *const colours[] = {"red, grey or Y", "green or Cb", "blue or Cr"};
+  struct cuzhantir_definition d;
+  uint64_t n;
+  printf("channel %u", (unsigned)channel);
+  for (n = 0; cuzhantir_definition_at(file, length, reading, n, &d); n++) {
+    if (d.channel != channel) {
+      continue;
+    }
+    if (d.typ == 0 && d.asoc >= 1 && d.asoc <= 3) {
+      printf(", colour %u (%s)", (unsigned)d.asoc, colours[d.asoc - 1]);
+    } else if (d.typ == 0 && d.asoc >= 1 && d.asoc <= 65534) {
+      printf(", colour %u", (unsigned)d.asoc);
+    } else if (d.typ == 1 || d.typ == 2) {
+      printf(", opacity");
+    } else {
+      printf(", not told");
+    }
+  }
+  printf("\n");
+}
+
+static int refused(uint64_t number, const char *at, uint64_t place) {
+  printf("refused with %u at %s %llu: %s\n", (unsigned)number, at, (unsigned long long)place, cuzhantir_cause(number));
+  return 1;
+}
+
+/* Finishes a picture of one sample a component. Samples are packed in the order of the channels, so the first sample's index
+   of a plane is the number of its channel. */
+static int show(const uint8_t *file, size_t length) {
+  static uint32_t comps[MOST_CHANNELS * CUZHANTIR_COMPONENT_LENGTH], records[MOST_CHANNELS * CUZHANTIR_COMPONENT_LENGTH];
+  static int32_t samples[MOST_CHANNELS], planes[MOST_CHANNELS];
+  uint64_t reading[CUZHANTIR_READING_LENGTH], answer[CUZHANTIR_ANSWER_LENGTH], p;
+  uint32_t count, c, number = cuzhantir_read(file, length, reading, CUZHANTIR_READING_LENGTH);
+  if (number != CUZHANTIR_DONE) {
+    return refused(number, "byte", reading[CUZHANTIR_READING_PLACE]);
+  }
+  /* a file that ends before a codestream is not refused, so the kind has to be tested */
+  if (reading[CUZHANTIR_READING_KIND] != CUZHANTIR_READING_CODESTREAM) {
+    printf("the file ends before a codestream: there is no picture in it\n");
+    return 1;
+  }
+  count = (uint32_t)reading[CUZHANTIR_READING_NUMCOMPS]; /* 16384 at most */
+  if (count == 0) {
+    printf("the file has no image header (ihdr): its components are not known\n");
+    return 1;
+  }
+  for (c = 0; c < count; c++) {
+    comps[c * CUZHANTIR_COMPONENT_LENGTH + CUZHANTIR_COMPONENT_W] = 1;
+    comps[c * CUZHANTIR_COMPONENT_LENGTH + CUZHANTIR_COMPONENT_H] = 1;
+    comps[c * CUZHANTIR_COMPONENT_LENGTH + CUZHANTIR_COMPONENT_DATA] = c;
+  }
+  number = cuzhantir_finish(file, length, reading, CUZHANTIR_READING_LENGTH, 0, comps, sizeof comps / sizeof *comps, count,
+                            samples, MOST_CHANNELS, records, sizeof records / sizeof *records, planes, MOST_CHANNELS, answer,
+                            CUZHANTIR_ANSWER_LENGTH);
+  if (number != CUZHANTIR_DONE) {
+    return refused(number, "index", answer[CUZHANTIR_ANSWER_PLACE]);
+  }
+  printf("%llu by %llu, components: %u%s\n", (unsigned long long)reading[CUZHANTIR_READING_W],
+         (unsigned long long)reading[CUZHANTIR_READING_H], (unsigned)count,
+         reading[CUZHANTIR_READING_CDEF_COUNT] == 0 ? ", no definitions: the channels keep their order" : "");
+  for (p = 0; p < answer[CUZHANTIR_ANSWER_COUNT]; p++) {
+    printf("plane %llu: ", (unsigned long long)p);
+    show_channel(file, length, reading, records[p * CUZHANTIR_COMPONENT_LENGTH + CUZHANTIR_COMPONENT_DATA]);
+  }
+  return 0;
 }
 
 int main(int argc, char **argv) {
-  static uint8_t file[1 << 20]; /* the boxes stand at the front, so the rest of a longer file may go unread */
-  uint64_t reading[CUZHANTIR_READING_LENGTH];
-  struct cuzhantir_definition d;
-  FILE *f = argc == 2 ? fopen(argv[1], "rb") : NULL;
-  uint32_t number;
-  uint64_t n;
+  uint8_t *file;
   size_t length;
-  if (f == NULL) {
+  int status;
+  if (argc != 2) {
     fprintf(stderr, "usage: show_order FILE\n");
     return 2;
   }
-  length = fread(file, 1, sizeof file, f);
-  fclose(f);
-
-  number = cuzhantir_read(file, length, reading, CUZHANTIR_READING_LENGTH);
-  if (number != CUZHANTIR_DONE) {
-    printf("refused with %u at byte %llu: %s\n", (unsigned)number, (unsigned long long)reading[CUZHANTIR_READING_PLACE],
-           cuzhantir_cause(number));
+  file = whole_file(argv[1], &length);
+  if (file == NULL) {
+    fprintf(stderr, "show_order: %s: %s\n", argv[1], strerror(errno));
     return 1;
   }
-  printf("%llu by %llu, components: %llu\n", (unsigned long long)reading[CUZHANTIR_READING_W],
-         (unsigned long long)reading[CUZHANTIR_READING_H], (unsigned long long)reading[CUZHANTIR_READING_NUMCOMPS]);
-  if (reading[CUZHANTIR_READING_CDEF_COUNT] == 0) {
-    printf("no definitions: the channels keep their order\n");
-  }
-  for (n = 0; cuzhantir_definition_at(file, length, reading, n, &d); n++) {
-    printf("channel %u: %s\n", (unsigned)d.channel, plane_of(d));
-  }
-  return 0;
+  status = show(file, length);
+  free(file);
+  return status;
 }

@@ -42,8 +42,7 @@ fn channel_name(header: &Header<'_>, channel: u16) -> String {
 
 /// The channel on each plane. A picture of one sample a component is finished: channels are packed in their order, so where
 /// a plane's sample stands says which channel it is.
-fn channels(header: &Header<'_>) -> Result<Vec<u16>, Refused> {
-    let count = header.image().map_or(0, |image| image.numcomps);
+fn channels(header: &Header<'_>, count: u16) -> Result<Vec<u16>, Refused> {
     let point = |at: u16| Component {
         w: 1,
         h: 1,
@@ -63,7 +62,11 @@ fn main() -> Result<(), Box<dyn Error>> {
     let path = env::args().nth(1).unwrap_or_else(|| SAMPLE.to_owned());
     let file = fs::read(&path)?;
     let header = read(&file)?;
-    for (plane, channel) in channels(&header)?.into_iter().enumerate() {
+    if header.codestream().is_none() {
+        return Err("the file ends before a codestream: there is no picture in it".into());
+    }
+    let image = header.image().ok_or("the file has no image header")?;
+    for (plane, channel) in channels(&header, image.numcomps)?.into_iter().enumerate() {
         println!(
             "plane {plane}: channel {channel}, {}",
             channel_name(&header, channel)

@@ -6,7 +6,10 @@
 //! before a codestream.
 //!
 //! A refusal is one of the numbers of document 01, the scope of the project, with a place: [`Refused`]. It changes no
-//! destination.
+//! destination. A file that ends before a codestream, such as an empty one, is not refused: test [`Header::codestream`].
+//!
+//! Which plane is which is said by the definitions ([`Header::definitions`]): the channel that is defined as colour k is on
+//! plane k - 1. The marks of finished planes do not say it; see [`Component::alpha`].
 //!
 //! ```
 //! use cuzhantir_jp2::{finish, read, write, Asoc, ColourSpace, Component, Components, WriteRequest};
@@ -30,11 +33,11 @@
 //! assert_eq!(header.codestream(), Some(file.len()));
 //! assert_eq!(header.definitions().map(|d| d.asoc).collect::<Vec<_>>(), [Asoc::Colour(1), Asoc::Whole]);
 //!
+//! // colour 1 is on plane 0, and the other plane is the opacity
 //! let samples = [10, 11, 255, 0];
 //! let picture = finish(&header, &Components::new(&[grey, opacity], &samples), false)?;
-//! let plane = picture.plane(1).unwrap();
-//! assert_eq!(plane.record.alpha, 1);
-//! assert_eq!(plane.samples, Some(&[255, 0][..]));
+//! assert_eq!(picture.plane(0).unwrap().samples, Some(&[10, 11][..]));
+//! assert_eq!(picture.plane(1).unwrap().samples, Some(&[255, 0][..]));
 //! # Ok::<(), cuzhantir_jp2::Refused>(())
 //! ```
 //!

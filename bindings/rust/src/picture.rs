@@ -33,7 +33,10 @@ pub struct Component {
     /// The first sample's index in the list of samples; none where there are no samples. An index of 4294967295 counts as
     /// none too.
     pub data: Option<u32>,
-    /// The mark: 0 colour, 1 opacity, 2 opacity that was multiplied in.
+    /// The mark. For writing, a component with any mark but 0 is the opacity of the picture; [`write`](fn@crate::write)
+    /// says when that gets into the file. Of a finished plane the mark does not say whether it is opacity: each definition
+    /// sets a mark, and a later one may set it again after the record has moved. With the definitions (0, 1, 0), (1, 0, 1),
+    /// opacity and then a colour, both planes have mark 0. Go by the definitions.
     pub alpha: u32,
 }
 
@@ -144,7 +147,8 @@ impl Picture {
         &self.samples
     }
 
-    /// Plane `p`, from 0: with definitions, plane 0 has colour 1.
+    /// Plane `p`, from 0. The channel that a definition calls colour k is on plane k - 1, where the definitions name no
+    /// channel and no colour twice. Without definitions channel c is on plane c.
     pub fn plane(&self, p: usize) -> Option<Plane<'_>> {
         self.records.get(p).map(|&record| Plane {
             record,
@@ -238,6 +242,11 @@ fn records_of(numbers: &[u32], planes: usize) -> Vec<Component> {
 /// in the order of the definitions. With `ignore` palette, mappings and definitions count for nothing, and the components
 /// are copied.
 ///
+/// Where there is a palette with mappings, there is a channel for each of its columns, with the column's depth, also where a
+/// mapping uses a component directly; else each component is a channel. Samples are packed in the order of the channels and
+/// only records are moved, so a plane's `data` tells which channel it is. A header of a file that ended before a codestream
+/// is taken too: that of an empty file has no definitions, so the components are copied.
+///
 /// A palette has up to 255 columns, and components may share samples, so a small picture may need much memory: the
 /// destinations are made as long as the picture needs. Use [`finish_into`] to bound them.
 ///
@@ -248,11 +257,16 @@ fn records_of(numbers: &[u32], planes: usize) -> Vec<Component> {
 /// ```
 /// use cuzhantir_jp2::{finish, read, Component, Components};
 ///
-/// let header = read(&[])?;
-/// let component = Component { w: 2, h: 1, data: Some(1), ..Component::default() };
-/// let picture = finish(&header, &Components::new(&[component], &[7, 8, 9]), false)?;
-/// assert_eq!(picture.plane(0).unwrap().sample(0, 1), Some(9));
-/// # Ok::<(), cuzhantir_jp2::Refused>(())
+/// // a picture whose channels are blue, green and red
+/// let file = std::fs::read("../../samples/gdal-bgr.jp2")?;
+/// let header = read(&file)?;
+/// assert!(header.codestream().is_some());
+/// // three components of one sample each, as a decoder would give them
+/// let component = |at| Component { w: 1, h: 1, prec: 8, data: Some(at), ..Component::default() };
+/// let components = [component(0), component(1), component(2)];
+/// let picture = finish(&header, &Components::new(&components, &[10, 20, 30]), false)?;
+/// assert_eq!(picture.plane(0).unwrap().sample(0, 0), Some(30));
+/// # Ok::<(), Box<dyn std::error::Error>>(())
 /// ```
 pub fn finish(
     header: &Header<'_>,
@@ -284,7 +298,8 @@ pub fn finish_into(
     )
 }
 
-/// Reads a file and finishes its picture: [`read`](crate::read) and [`finish`] in one step.
+/// Reads a file and finishes its picture: [`read`](crate::read) and [`finish`] in one step. A file that ends before a
+/// codestream is finished with what was read of it; [`read`](crate::read) tells the two apart.
 ///
 /// # Errors
 ///

@@ -33,7 +33,8 @@ impl ColourSpace {
 /// What is to be written.
 #[derive(Clone, Copy, Debug, PartialEq, Eq, Hash)]
 pub struct WriteRequest<'a> {
-    /// The components, of which precision, sign and mark are looked at.
+    /// The components, of which precision, sign and mark are looked at. Where all precisions are equal, the signs of those
+    /// after the first are not written.
     pub components: &'a [Component],
     /// Left edge of the picture's area.
     pub x0: u32,
@@ -43,9 +44,10 @@ pub struct WriteRequest<'a> {
     pub x1: u32,
     /// Lower edge: the height is `y1 - y0`, likewise.
     pub y1: u32,
-    /// The colour space, which counts where there is no profile.
+    /// The colour space, which is written where there is no profile.
     pub space: ColourSpace,
-    /// An ICC profile; empty for none.
+    /// An ICC profile, of any bytes; empty for none. A file with a profile has no `cdef`, so opacity is lost: see
+    /// [`write`](fn@write).
     pub profile: &'a [u8],
     /// How many bytes the codestream has, the header of its box not among them.
     pub codestream: u64,
@@ -53,7 +55,10 @@ pub struct WriteRequest<'a> {
 
 /// Writes signature, file type, `jp2h` and the header of the codestream's box. The codestream goes behind them.
 ///
-/// A `cdef` is written where exactly one component is marked and is none of the colours.
+/// A `cdef` is written where all of this holds: exactly one component has a mark that is not 0; the colour space is not
+/// [`ColourSpace::Other`]; the marked component comes after the colours (one for grey, else three); and there is no profile.
+/// It defines that component as the opacity of the whole picture, whatever its mark. In all other cases the marks are not
+/// written, and this is no error: the file then does not tell which component is opacity.
 ///
 /// # Errors
 ///

@@ -80,6 +80,38 @@ fn colour_spaces_come_back() {
     }
 }
 
+/// A `cdef` is written where the documentation of `write` says so, and nowhere else.
+#[test]
+fn opacity_is_written_for_known_colours_without_a_profile() {
+    let marked = |marks: &[u32]| -> Vec<Component> {
+        let points = points(u32::try_from(marks.len()).expect("components"));
+        let mark = |(point, &alpha): (Component, &u32)| Component { alpha, ..point };
+        points.into_iter().zip(marks).map(mark).collect()
+    };
+    let defined = |marks: &[u32], space: ColourSpace, profile: &[u8]| -> Vec<Typ> {
+        let components = marked(marks);
+        let request = WriteRequest {
+            space,
+            profile,
+            ..request(&components)
+        };
+        let file = write(&request).expect("boxes");
+        let header = read(&file).expect("a header");
+        header.definitions().map(|d| d.typ).collect()
+    };
+    let (colour, opacity, not_told) = (Typ::Colour, Typ::Opacity, Typ::Unspecified);
+    let rgba = vec![colour, colour, colour, opacity];
+    assert_eq!(defined(&[0, 0, 0, 1], ColourSpace::Srgb, &[]), rgba);
+    assert_eq!(defined(&[0, 0, 0, 2], ColourSpace::Sycc, &[]), rgba);
+    let grey = vec![colour, not_told, opacity];
+    assert_eq!(defined(&[0, 0, 1], ColourSpace::Grey, &[]), grey);
+    assert_eq!(defined(&[0, 0, 0, 1], ColourSpace::Srgb, &[7]), []);
+    assert_eq!(defined(&[0, 0, 0, 1], ColourSpace::Other, &[]), []);
+    assert_eq!(defined(&[0, 0, 0, 1, 1], ColourSpace::Srgb, &[]), []);
+    assert_eq!(defined(&[0, 0, 1], ColourSpace::Srgb, &[]), []);
+    assert_eq!(defined(&[0, 0, 0], ColourSpace::Srgb, &[]), []);
+}
+
 #[test]
 fn a_profile_comes_back_byte_for_byte() {
     let components = points(3);
