@@ -1,4 +1,4 @@
-//! Why something was turned down.
+//! Why something was refused.
 
 use std::error::Error;
 use std::fmt;
