@@ -32,6 +32,9 @@ pub fn reorder(components: &[Component], definitions: &[Definition]) -> Reorderi
     Reordering {
         outcome,
         messages,
-        components: planes(&image).into_iter().map(|plane| plane.props).collect(),
+        components: planes(&image)
+            .into_iter()
+            .map(|plane| plane.props)
+            .collect(),
     }
 }

@@ -3,8 +3,8 @@
 use crate::request::{self, Malformed, Request};
 use oracle::leaves::{self, Header, Kind};
 use oracle::{
-    Finishing, Level, Message, Outcome, Palette, Plane, Profile, Props, Reading, Record, Reordering,
-    Step, Writing, WritingRequest,
+    Finishing, Level, Message, Outcome, Palette, Plane, Profile, Props, Reading, Record,
+    Reordering, Step, Writing, WritingRequest,
 };
 use std::fmt::Display;
 use std::io::{Result, Write};
