@@ -43,7 +43,7 @@ planes-same {f} {g} {m} a k i few free once =
     }
 
 -- a file is read to one record
-only : {r : Result} {m k : Jp2} → r ≡ accepted m → r ≡ accepted k → k ≡ m
+pub only : {r : Result} {m k : Jp2} → r ≡ accepted m → r ≡ accepted k → k ≡ m
 only e d = cc
 
 module _ (h : Handed) (g : List ℕ) (m : Jp2) (o : AlikeButOrder h g m) where
@@ -62,10 +62,12 @@ module _ (h : Handed) (g : List ℕ) (m : Jp2) (o : AlikeButOrder h g m) where
         reordered = λ d. sym (o .reordered d);
       }
 
-  both : IsAccepted h → IsAccepted (withFile g h)
-  both (k, planes, y) =
+  both : (n : ℕ) → IsAccepted h n → IsAccepted (withFile g h) n
+  unfolding picture
+  both n (k, planes, y, e) =
       let z = subst (λ k. Accepted h k planes) (only (o .reads) (y .reading)) y in
-      (m, _, record { reading = reads; finishing = passes (withFile g h) m (passed-same h g m agree (passed h m planes (z .finishing) .0)) })
+      let p = passed h m planes (z .finishing) in
+      (m, _, record { reading = reads; finishing = passes (withFile g h) m (passed-same h g m agree (p .0)) }, sym (ap (λ (made : Image). made .count) (p .1)) ∙ e)
 
   same : OrderFree → (k : Jp2) (planes others : Image) → Accepted h m planes → Accepted (withFile g h) k others → Defined h m → Clear h m → SamePlanes planes others
   same free k planes others y z defined clear =
@@ -77,7 +79,7 @@ module _ (h : Handed) (g : List ℕ) (m : Jp2) (o : AlikeButOrder h g m) where
 pub order-freedom-from : OrderFree → OrderFreedom
 order-freedom-from free =
     record {
-      both = both;
-      neither = λ h g m o. both (withFile g h) (h .file) m (either-first h g m o);
+      both = λ h g m n o. both h g m o n;
+      neither = λ h g m n o. both (withFile g h) (h .file) m (either-first h g m o) n;
       same = λ h g m k planes others o. same h g m o free k planes others;
     }

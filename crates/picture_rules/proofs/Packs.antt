@@ -66,10 +66,13 @@ module _ (f : List ℕ) (m : Jp2) (i : Image) where
   packed-length zero held = refl
   packed-length (suc n) held = rw length-append (omega (arith, packed-length n (λ c h. held c (omega arith)), channel-length n (held n (omega arith))))
 
-  -- a sample of channel c is in the list
-  packed-holds : (n : ℕ) → Held n → (c k : ℕ) → c < n → k < size i (componentOf f m c) → startOf f m i c + k < length (packed f m i n)
+  -- the samples of channel c are in the list
+  pub packed-inside : (n : ℕ) → Held n → (c : ℕ) → c < n → startOf f m i c + size i (componentOf f m c) ≤ length (packed f m i n)
   unfolding startOf
-  packed-holds n held c k h l = omega (arith, packed-length n held, start-more (suc c) n h)
+  packed-inside n held c h = omega (arith, packed-length n held, start-more (suc c) n h)
+
+  packed-holds : (n : ℕ) → Held n → (c k : ℕ) → c < n → k < size i (componentOf f m c) → startOf f m i c + k < length (packed f m i n)
+  packed-holds n held c k h l = omega (arith, packed-inside n held c h)
 
   packed-channel : (n : ℕ) → Held n → (c k : ℕ) (d : ℤ) → c < n → k < size i (componentOf f m c) → getD (packed f m i n) (startOf f m i c + k) d ≡ getD (channelSamples f m i c) k d
   unfolding packed startOf

@@ -7,7 +7,7 @@ use mathlib.Core.List.{List, _++_}
 use native.Mathlib.Nat.{add-assoc, mul-le-mul-right}
 use native.Mathlib.Omega.{arith}
 use lib.IntN.{ℤ, pos}
-use lib.ListN.{getD, List·getD-append}
+use lib.ListN.{length, getD, length-append, List·getD-append}
 use Rattle.box_number.specs.Table.{_=?_}
 use Rattle.box_number.proofs.Rows.{Says, row}
 use Rattle.read_record.specs.declared.Jp2.{Jp2}
@@ -25,7 +25,7 @@ use Rattle.picture_rules.specs.PictureRule.{FilledPlanes, RightPlanes}
 use Rattle.picture_rules.specs.EveryPicture.{EveryPlane}
 use Rattle.box_number.proofs.Indices.{decide}
 use Rattle.picture_rules.proofs.Flats.{flat-length, flat-at}
-use Rattle.picture_rules.proofs.Packs.{start-more, packed-at}
+use Rattle.picture_rules.proofs.Packs.{start-more, size-some, packed-inside, packed-at}
 use Rattle.picture_rules.proofs.Checks.{Checked, made}
 use Rattle.picture_rules.proofs.Listed.{occurs}
 use Rattle.picture_rules.proofs.Mappings.{Kept, component-within}
@@ -106,6 +106,12 @@ module _ (h : Handed) (m : Jp2) (numbers : List ℕ) (samples : List ℤ) (pairs
           ∙ packed-at f m i n (λ c l. component-within h m k checked c l inside) samples c (y * width i r + x) (pos 0) l some (omega (arith, mul-le-mul-right (width i r) a))
           ∙ ap (valueOf f m (i .count) c) (sym (at-index (i .samples) (first i r) (width i r) y x))
 
+      inside-list : (first i r ≡ noData → ⊥) → first planes (to c) + height planes (to c) * width planes (to c) ≤ length (planes .samples)
+      unfolding picture
+      inside-list some =
+          rw (start some, high, wide, length-append)
+          (omega (arith, packed-inside f m i n (λ c l. component-within h m k checked c l inside) c l, size-some i r some))
+
       fills : Fills h m planes c (to c)
       fills =
           record {
@@ -113,6 +119,7 @@ module _ (h : Handed) (m : Jp2) (numbers : List ℕ) (samples : List ℤ) (pairs
             high = high;
             empty = λ e. plane-number c 11 l (omega arith) ∙ expanded-none f m i c e;
             empty-only = λ e. decide (first i r =? noData) (λ z. z) (λ some. omega (arith, start some, checked .most, start-more f m i c n (omega arith)));
+            inside = λ some. omega (arith, inside-list some);
             sample = λ some y x a b. sample some y x (omega (arith, high)) (omega (arith, wide));
           }
 

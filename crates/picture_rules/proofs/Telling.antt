@@ -1,13 +1,17 @@
 -- What the rules of demand 3 say of a point and of a record: a rule is of no use to a reader if it speaks of no row, no column or no record.
 -- Assumes nothing.
-use Prim.Native.Nat.{ℕ, _<_}
-use mathlib.Core.Path.{_≡_}
+use Prim.Native.Nat.{ℕ, _+_, _*_, _≤_, _<_}
+use mathlib.Core.Path.{_≡_, refl, ap, subst, _∙_}
+use mathlib.Core.List.{List}
+use lib.ListN.{length}
 use Rattle.read_record.specs.declared.Jp2.{Jp2}
-use Rattle.picture_rules.specs.Image.{Image, component, width, height, sampleAt}
-use Rattle.picture_rules.specs.Words.{Handed, Empty, channelSample}
+use Rattle.picture_rules.specs.Image.{Image, component, width, height, first, sampleAt}
+use Rattle.picture_rules.specs.Finish.{Finishing, finished}
+use Rattle.picture_rules.specs.Words.{Handed, Accepted, Empty, channelSample}
 use Rattle.picture_rules.specs.PictureRule.{FilledPlanes}
 use Rattle.picture_rules.specs.EveryPicture.{EveryPlane}
-use Rattle.picture_rules.specs.OrderFreedom.{SamePlanes}
+use Rattle.picture_rules.specs.OrderFreedom.{withFile, AlikeButOrder, SamePlanes, OrderFreedom}
+use Rattle.picture_rules.proofs.Orders.{only}
 
 -- at every point of channel c's plane is the channel's sample
 pub tells-sample :
@@ -15,6 +19,24 @@ pub tells-sample :
     let p = filled .pairing .to c in
     (y x : ℕ) → y < height planes p → x < width planes p → sampleAt planes p y x ≡ channelSample h m c y x
 tells-sample h m planes filled c l some y x a b = filled .fills c l .sample some y x a b
+
+-- and where the channel has samples, the last one of its plane is in the list
+pub tells-inside :
+    (h : Handed) (m : Jp2) (planes : Image) (filled : FilledPlanes h m planes) (c : ℕ) → c < planes .count → (Empty h m c → ⊥) →
+    let p = filled .pairing .to c in
+    first planes p + height planes p * width planes p ≤ length (planes .samples)
+tells-inside h m planes filled c l some = filled .fills c l .inside some
+
+same-picture : {x : Finishing} {made planes : Image} → x ≡ finished made → x ≡ finished planes → planes ≡ made
+same-picture e d = cc
+
+-- two accepted pictures that are alike in all but the order of definitions have as many planes, whatever the definitions are
+pub tells-count :
+    OrderFreedom → (h : Handed) (g : List ℕ) (m k : Jp2) (planes others : Image) → AlikeButOrder h g m → Accepted h m planes → Accepted (withFile g h) k others → others .count ≡ planes .count
+tells-count free h g m k planes others o y z =
+    let (j, made, x, e) = free .both h g m (planes .count) o (m, planes, y, refl) in
+    let w = subst (λ k. Accepted (withFile g h) k others) (only (x .reading) (z .reading)) z in
+    ap (λ (p : Image). p .count) (same-picture (x .finishing) (w .finishing)) ∙ e
 
 -- every record of the same planes is the same, its mark aside
 pub tells-record : (planes others : Image) → SamePlanes planes others → (p k : ℕ) → p < planes .count → k < 12 → component others p k ≡ component planes p k

@@ -31,8 +31,8 @@ pub record SamePlanes (planes others : Image) : Type 0 where
   pub samples : others .samples ≡ planes .samples
 
 pub record OrderFreedom : Type 0 where
-  -- both are accepted or neither
-  pub both : (h : Handed) (g : List ℕ) (m : Jp2) → AlikeButOrder h g m → IsAccepted h → IsAccepted (withFile g h)
-  pub neither : (h : Handed) (g : List ℕ) (m : Jp2) → AlikeButOrder h g m → IsAccepted (withFile g h) → IsAccepted h
+  -- both are accepted, with as many planes, or neither
+  pub both : (h : Handed) (g : List ℕ) (m : Jp2) (n : ℕ) → AlikeButOrder h g m → IsAccepted h n → IsAccepted (withFile g h) n
+  pub neither : (h : Handed) (g : List ℕ) (m : Jp2) (n : ℕ) → AlikeButOrder h g m → IsAccepted (withFile g h) n → IsAccepted h n
   -- and where they are, with definitions that clash nowhere, they have the same planes at the same places
   pub same : (h : Handed) (g : List ℕ) (m k : Jp2) (planes others : Image) → AlikeButOrder h g m → Accepted h m planes → Accepted (withFile g h) k others → Defined h m → Clear h m → SamePlanes planes others

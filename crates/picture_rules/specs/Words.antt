@@ -1,7 +1,8 @@
 -- Document 01, "Words of demand 3", each as a definition.
-use Prim.Native.Nat.{ℕ, _<_}
+use Prim.Native.Nat.{ℕ, _+_, _*_, _≤_, _<_}
 use mathlib.Core.Path.{_≡_}
 use lib.IntN.{ℤ}
+use lib.ListN.{length}
 use Rattle.read_record.specs.declared.Jp2.{Jp2}
 use Rattle.read_record.specs.Answer.{accepted}
 use Rattle.read_file.specs.File.{read}
@@ -19,9 +20,9 @@ pub record Accepted (h : Handed) (m : Jp2) (planes : Image) : Type 0 where
   pub reading : given (read (h .file)) ≡ accepted m
   pub finishing : finish h m ≡ finished planes
 
--- accepted, with some record and some planes
-abbrev pub IsAccepted : Handed → Type 0
-IsAccepted h = (m : Jp2) × (planes : Image) × Accepted h m planes
+-- accepted, with some record, and finished to n planes
+abbrev pub IsAccepted : Handed → ℕ → Type 0
+IsAccepted h n = (m : Jp2) × (planes : Image) × Accepted h m planes × (planes .count ≡ n)
 
 -- definitions are present, and applied
 pub record Defined (h : Handed) (m : Jp2) : Type 0 where
@@ -44,10 +45,11 @@ channelSample h m c y x = valueOf (h .file) m (h .image .count) c (sampleAt (h .
 abbrev pub Empty : Handed → Jp2 → ℕ → Type 0
 Empty h m c = first (h .image) (source h m c) ≡ noData
 
--- channel c fills plane p
+-- channel c fills plane p; where there are samples, all of the plane lies inside the list of samples
 pub record Fills (h : Handed) (m : Jp2) (planes : Image) (c p : ℕ) : Type 0 where
   pub wide : width planes p ≡ width (h .image) (source h m c)
   pub high : height planes p ≡ height (h .image) (source h m c)
   pub empty : Empty h m c → first planes p ≡ noData
   pub empty-only : first planes p ≡ noData → Empty h m c
+  pub inside : (Empty h m c → ⊥) → first planes p + height planes p * width planes p ≤ length (planes .samples)
   pub sample : (Empty h m c → ⊥) → (y x : ℕ) → y < height planes p → x < width planes p → sampleAt planes p y x ≡ channelSample h m c y x
