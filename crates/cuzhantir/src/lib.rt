@@ -64,7 +64,7 @@ pub extern "C" fn cuzhantir_read(file: &[u8], reading: &mut [u64]) -> u32
 }
 
 // Reads a file, finishes its picture and gives the 4 numbers of the answer. Where answer has no room for them nothing is done.
-// The last clause is demand 3: where the answer is "done", every sample of the finished planes in the destinations is the right one.
+// The last clause is demand 3: where the answer is "done", every sample of the finished planes in the destinations is the right one, in whatever order the file has its definitions.
 #[no_mangle]
 pub extern "C" fn cuzhantir_picture(
     file: &[u8],
@@ -80,7 +80,7 @@ pub extern "C" fn cuzhantir_picture(
     ensures { λ _. ⌜ now (answer .exit) ≡ room answerLength (now (answer .entry)) (now (answer .entry)) (placed (now (answer .entry)) 0 (ofFinished (answered (pictured (handed (now (file .entry)) ignore (now (comps .entry)) count (now (samples .entry)) (now (records .entry)) (now (planes .entry))))))) ⌝ }
     ensures { λ _. ⌜ now (records .exit) ≡ room answerLength (now (answer .entry)) (now (records .entry)) (recordsAfter (pictured (handed (now (file .entry)) ignore (now (comps .entry)) count (now (samples .entry)) (now (records .entry)) (now (planes .entry)))) (now (records .entry))) ⌝ }
     ensures { λ _. ⌜ now (planes .exit) ≡ room answerLength (now (answer .entry)) (now (planes .entry)) (samplesAfter (pictured (handed (now (file .entry)) ignore (now (comps .entry)) count (now (samples .entry)) (now (records .entry)) (now (planes .entry)))) (now (planes .entry))) ⌝ }
-    ensures { λ _. ⌜ ToldRight (handed (now (file .entry)) ignore (now (comps .entry)) count (now (samples .entry)) (now (records .entry)) (now (planes .entry))) (now (answer .entry)) (now (answer .exit)) (now (records .exit)) (now (planes .exit)) ⌝ }
+    ensures { λ _. ⌜ ToldRight (handed (now (file .entry)) ignore (now (comps .entry)) count (now (samples .entry)) (now (records .entry)) (now (planes .entry))) (now (answer .entry)) (now (answer .exit)) (now (records .exit)) (now (planes .entry)) (now (planes .exit)) ⌝ }
 {
     if answer.len() < ANSWER_LENGTH {
         return TOO_SHORT;

@@ -4,7 +4,7 @@ use Prim.Native.Nat.{ℕ}
 use native.Mathlib.Omega.{arith}
 use types.Run.{OneOf, miss}
 use denote.Enum.Declared.{tagOf}
-use mathlib.Core.Path.{_≡_, refl}
+use mathlib.Core.Path.{_≡_, refl, sym, ap, subst, _∙_}
 use mathlib.Core.List.{List, [], _∷_, _++_}
 use lib.IntN.{ℤ}
 use lib.ListN.{length, drop}
@@ -22,14 +22,17 @@ use Rattle.picture_rules.specs.Handed.{Handed}
 use Rattle.picture_rules.specs.Words.{Accepted}
 use Rattle.picture_rules.specs.PictureRule.{RightPlanes}
 use Rattle.picture_rules.specs.EveryPicture.{EveryPlane}
-use Rattle.picture_rules.proofs.Destinations.{right-in-place, every-in-place}
+use Rattle.picture_rules.specs.OrderFreedom.{withFile, AlikeButOrder, SameDestinations}
+use Rattle.picture_rules.proofs.Orders.{either-first}
+use Rattle.picture_rules.proofs.Destinations.{right-in-place, every-in-place, same-in-place}
+use Rattle.picture_rules.proofs.Demand3.{order-freedom}
 use Rattle.picture_finish.specs.declared.Finished.{Finished}
 use Rattle.picture_finish.specs.declared.Finished.the-variants.{Planes, Refused}
-use Rattle.picture_finish.specs.Answers.{answered, recordsAfter, samplesAfter, Done}
-use Rattle.picture_rules.specs.Met.{Met, directExample, directPlanes, paletted, palettedPlanes}
+use Rattle.picture_finish.specs.Answers.{answered, fronted, recordsAfter, samplesAfter, Done}
+use Rattle.picture_rules.specs.Met.{otherwise-turned, directFile, directExample, directPlanes, palettedFile, paletted, palettedPlanes, Met}
 use Rattle.picture_rules.proofs.Mets.{direct-met, palette-met}
 use Rattle.picture_finish.proofs.Colours.{declined-done}
-use Rattle.picture_finish.specs.Whole.{pictured, PictureRight, PictureFilled, ReadPicture, Speaks}
+use Rattle.picture_finish.specs.Whole.{pictured, PictureRight, PictureFilled, PictureOrderFree, ReadPicture, Speaks}
 
 -- the cases of an answer that refuse nothing: codestream and ended
 abbrev pub reads : List ℕ
@@ -47,6 +50,28 @@ unfolding reading
 told-read (codestream offset m) e d = cc
 told-read (ended m) e d = cc
 told-read (fileRefused number place) e d = absurd (miss reads 2 tt (rw e at d))
+
+-- planes that are answered are those of a finished picture
+planes-of : (x : Finishing) (n : ℕ) → answered x ≡ Planes n → (p : Image) × (x ≡ finished p) × (p .count ≡ n)
+unfolding answered
+planes-of (finished p) n e = (p, refl, cc)
+planes-of (declined number place) n e = let z : _≡_ {A = ℕ} 0 1 = cc in absurd (omega arith)
+
+accepted-of : (h : Handed) (m : Jp2) (p : Image) → pictured h ≡ finished p → given (read (h .file)) ≡ accepted m → Accepted h m p
+unfolding pictured
+accepted-of h m p e a = record { reading = a; finishing = rw a at e }
+
+pictured-of : (h : Handed) (m : Jp2) (p : Image) → Accepted h m p → pictured h ≡ finished p
+unfolding pictured
+pictured-of h m p y = rw (y .reading) (y .finishing)
+
+-- the same number of planes is answered for a file that is alike in all but the order of definitions
+as-many : (h : Handed) (g : List ℕ) (m : Jp2) (n : ℕ) → AlikeButOrder h g m → answered (pictured h) ≡ Planes n → answered (pictured (withFile g h)) ≡ Planes n
+unfolding answered
+as-many h g m n o e =
+    let (p, is, count) = planes-of (pictured h) n e in
+    let (k, q, y, same) = order-freedom .both h g m n o (m, p, accepted-of h m p is (o .reads), count) in
+    ap answered (pictured-of (withFile g h) k q y) ∙ ap Planes same
 
 module _ (h : Handed) where
   pub reading-refused : {r : Reading} {number place : ℕ} → r ≡ reading blank (read (h .file)) → r .answer ≡ answers.Refused number place → pictured h ≡ declined number place
@@ -76,28 +101,52 @@ module _ (h : Handed) where
   every : (x : Finishing) {r : Finished} (records : List ℕ) (planes : List ℤ) {records′ : List ℕ} {planes′ : List ℤ} → pictured h ≡ x → r ≡ answered x → records′ ≡ recordsAfter x records → planes′ ≡ samplesAfter x planes → PictureFilled h r records′ planes′
   every x records planes is a u v m n accepts e = carried x records planes is a u v (EveryPlane h (counted (h .settings) m)) m n accepts e (λ p y d s. every-in-place h m p y d s)
 
+  free : {r : Finished} (records : List ℕ) (planes : List ℤ) {records′ : List ℕ} {planes′ : List ℤ} → Done (pictured h) r records records′ planes planes′ → PictureOrderFree h r records′ planes planes′
+  unfolding recordsAfter samplesAfter
+  free {r} records planes {records′} {planes′} x g m o other others others′ pixels pixels′ y = (
+    (λ n. ((λ e. y .answer ∙ as-many h g m n o (sym (x .answer) ∙ e)), λ e. x .answer ∙ as-many (withFile g h) (h .file) m n (either-first h g m o) (sym (y .answer) ∙ e))),
+    λ n e defined clear.
+        let answers : answered (pictured h) ≡ Planes n = sym (x .answer) ∙ e in
+        let (p, here, count) = planes-of (pictured h) n answers in
+        let (q, there, _) = planes-of (pictured (withFile g h)) n (as-many h g m n o answers) in
+        let same = same-in-place h g m p q o (accepted-of h m p here (o .reads)) (accepted-of (withFile g h) m q there (either-first h g m o .reads)) defined clear records others planes pixels in
+        let a : records′ ≡ fronted (p .components) records = x .numbers ∙ ap (λ w. recordsAfter w records) here in
+        let b : others′ ≡ fronted (q .components) others = y .numbers ∙ ap (λ w. recordsAfter w others) there in
+        let c : planes′ ≡ fronted (p .samples) planes = x .samples ∙ ap (λ w. samplesAfter w planes) here in
+        let d : pixels′ ≡ fronted (q .samples) pixels = y .samples ∙ ap (λ w. samplesAfter w pixels) there in
+        subst (λ n. SameDestinations n records′ others′ planes planes′ pixels pixels′) count (rw (a, b, c, d) same),
+  )
+
   -- the whole promise
   pub shows : (x : Finishing) {r : Finished} (records : List ℕ) (planes : List ℤ) {records′ : List ℕ} {planes′ : List ℤ} → pictured h ≡ x → Done x r records records′ planes planes′ → ReadPicture h r records records′ planes planes′
-  shows x records planes is d =
+  shows x {r} records planes {records′} {planes′} is d =
+      let done : Done (pictured h) r records records′ planes planes′ = rw is d in
       record {
-        done = rw is d;
-        right = right x records planes is (d .answer) (d .numbers) (d .samples);
-        filled = every x records planes is (d .answer) (d .numbers) (d .samples);
+        done = done;
+        demand3 = record {
+          right = right x records planes is (d .answer) (d .numbers) (d .samples);
+          filled = every x records planes is (d .answer) (d .numbers) (d .samples);
+          free = free records planes done;
+        };
       }
 
   pub shows-refused : {number place : ℕ} (records : List ℕ) (planes : List ℤ) → pictured h ≡ declined number place → ReadPicture h (Refused number place) records records planes planes
   shows-refused {number} {place} records planes is = shows (declined number place) records planes is (declined-done (declined number place) records planes refl)
 
 -- the rules in the promise are not empty ones: with a palette and without, their premises are met
-speaks : (h : Handed) (planes : Image) (other : List ℕ) → Met h planes other → Speaks h planes
-speaks h planes other met =
+speaks : (h : Handed) (planes : Image) (other : List ℕ) → Met h planes other → Speaks h planes other
+speaks h planes other met rule =
+    let x = pictured (withFile other h) in
+    let free = rule .free other (met .kept) (met .alike) (answered x) [] (recordsAfter x []) [] (samplesAfter x []) (record { answer = refl; numbers = refl; samples = refl }) in
     record {
-      right = λ rule. (met .kept, rule (met .kept) (planes .count) (met .accepted .reading) refl (met .defined) (met .clear));
-      filled = λ rule. (met .kept, rule (met .kept) (planes .count) (met .accepted .reading) refl);
+      right = (met .kept, rule .right (met .kept) (planes .count) (met .accepted .reading) refl (met .defined) (met .clear));
+      filled = (met .kept, rule .filled (met .kept) (planes .count) (met .accepted .reading) refl);
+      as-many = free .0 (planes .count) .0 refl;
+      same = free .1 (planes .count) refl (met .defined) (met .clear);
     }
 
-pub speaks-direct : Speaks directExample directPlanes
+pub speaks-direct : Speaks directExample directPlanes (directFile otherwise-turned)
 speaks-direct = speaks directExample directPlanes _ direct-met
 
-pub speaks-paletted : Speaks paletted palettedPlanes
+pub speaks-paletted : Speaks paletted palettedPlanes (palettedFile otherwise-turned)
 speaks-paletted = speaks paletted palettedPlanes _ palette-met

@@ -1,9 +1,9 @@
 -- What finishing a picture answers, and what it leaves in the two destinations.
 use Prim.Native.Nat.{ℕ}
 use mathlib.Core.Path.{_≡_}
-use mathlib.Core.List.{List, _++_}
+use mathlib.Core.List.{List}
 use lib.IntN.{ℤ}
-use lib.ListN.{length, drop}
+pub use Rattle.picture_rules.specs.Image.{fronted}
 use Rattle.picture_rules.specs.Finish.{Finishing, finished, declined}
 use Rattle.picture_finish.specs.declared.Finished.{Finished}
 use Rattle.picture_finish.specs.declared.Finished.the-variants.{Planes, Refused}
@@ -12,10 +12,6 @@ use Rattle.picture_finish.specs.declared.Finished.the-variants.{Planes, 
 unfoldable pub answered : Finishing → Finished
 answered (finished planes) = Planes (planes .count)
 answered (declined number place) = Refused number place
-
--- a destination d with a list at its front, and the rest as it was
-abbrev pub fronted : {A : Type 0} → List A → List A → List A
-fronted xs d = xs ++ drop (length xs) d
 
 -- the numbers of the records; a refusal changes none
 unfoldable pub recordsAfter : Finishing → List ℕ → List ℕ

@@ -1,7 +1,7 @@
 -- Reading a file and finishing its picture in one step, and what demand 3 says of the destinations afterwards.
 use Prim.Native.Nat.{ℕ}
 use mathlib.Core.Path.{_≡_}
-use mathlib.Core.List.{List}
+use mathlib.Core.List.{List, []}
 use lib.IntN.{ℤ}
 use lib.ListN.{length}
 use Rattle.read_record.specs.declared.Jp2.{Jp2}
@@ -14,9 +14,10 @@ use Rattle.picture_rules.specs.Handed.{Handed, settings}
 use Rattle.picture_rules.specs.Words.{Defined, Clear}
 use Rattle.picture_rules.specs.PictureRule.{RightPlanes}
 use Rattle.picture_rules.specs.EveryPicture.{EveryPlane}
+use Rattle.picture_rules.specs.OrderFreedom.{withFile, AlikeButOrder, SameDestinations}
 use Rattle.picture_finish.specs.declared.Finished.{Finished}
 use Rattle.picture_finish.specs.declared.Finished.the-variants.{Planes}
-use Rattle.picture_finish.specs.Answers.{Done}
+use Rattle.picture_finish.specs.Answers.{answered, recordsAfter, samplesAfter, Done}
 
 -- all inputs of finishing; of the destinations their lengths
 abbrev pub handed : List ℕ → ℕ → List ℕ → ℕ → List ℤ → List ℕ → List ℤ → Handed
@@ -41,13 +42,36 @@ abbrev pub PictureFilled : Handed → Finished → List ℕ → List ℤ → Typ
 PictureFilled h answer records planes =
     (m : Jp2) (n : ℕ) → given (read (h .file)) ≡ accepted m → answer ≡ Planes n → EveryPlane h (counted (h .settings) m) (image records n planes)
 
+-- two answers have as many planes, or neither has any
+abbrev pub SameAnswer : Finished → Finished → Type 0
+SameAnswer r s = (n : ℕ) → (r ≡ Planes n → s ≡ Planes n) × (s ≡ Planes n → r ≡ Planes n)
+
+-- order freedom, of the destinations themselves. Had any other file been handed in, alike in all but the order of definitions, with all else equal (of the destinations the length; `others` and `pixels` are what they contain):
+-- both answer as many planes, or neither any; and with definitions that are present, applied and clash nowhere, the destinations have the same records, marks aside, and the same samples
+abbrev pub PictureOrderFree : Handed → Finished → List ℕ → List ℤ → List ℤ → Type 0
+PictureOrderFree h answer records′ planes planes′ =
+    (g : List ℕ) (m : Jp2) → AlikeButOrder h g m →
+    (other : Finished) (others others′ : List ℕ) (pixels pixels′ : List ℤ) → Done (pictured (withFile g h)) other others others′ pixels pixels′ →
+    SameAnswer answer other × ((n : ℕ) → answer ≡ Planes n → Defined h m → Clear h m → SameDestinations n records′ others′ planes planes′ pixels pixels′)
+
+-- demand 3 of the destinations: both halves, and what of the first needs no premise
+pub record Demand3 (h : Handed) (answer : Finished) (records′ : List ℕ) (planes planes′ : List ℤ) : Type 0 where
+  pub right : PictureRight h answer records′ planes′
+  pub filled : PictureFilled h answer records′ planes′
+  pub free : PictureOrderFree h answer records′ planes planes′
+
 -- the whole promise: the answer, both destinations, and demand 3
 pub record ReadPicture (h : Handed) (r : Finished) (records records′ : List ℕ) (planes planes′ : List ℤ) : Type 0 where
   pub done : Done (pictured h) r records records′ planes planes′
-  pub right : PictureRight h r records′ planes′
-  pub filled : PictureFilled h r records′ planes′
+  pub demand3 : Demand3 h r records′ planes planes′
 
--- both rules say something: of these planes for these inputs, that they are right, and filled
-pub record Speaks (h : Handed) (planes : Image) : Type 0 where
-  pub right : PictureRight h (Planes (planes .count)) (planes .components) (planes .samples) → (m : Jp2) × RightPlanes h m planes
-  pub filled : PictureFilled h (Planes (planes .count)) (planes .components) (planes .samples) → (m : Jp2) × EveryPlane h (counted (h .settings) m) planes
+-- what demand 3 says of these planes for these inputs, and of another file: they are right, and filled, and the other file leaves the same
+pub record Said (h : Handed) (planes : Image) (other : List ℕ) : Type 0 where
+  pub right : (m : Jp2) × RightPlanes h m planes
+  pub filled : (m : Jp2) × EveryPlane h (counted (h .settings) m) planes
+  pub as-many : answered (pictured (withFile other h)) ≡ Planes (planes .count)
+  pub same : SameDestinations (planes .count) (planes .components) (recordsAfter (pictured (withFile other h)) []) [] (planes .samples) [] (samplesAfter (pictured (withFile other h)) [])
+
+-- so it says something
+abbrev pub Speaks : Handed → Image → List ℕ → Type 0
+Speaks h planes other = Demand3 h (Planes (planes .count)) (planes .components) [] (planes .samples) → Said h planes other

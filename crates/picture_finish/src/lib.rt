@@ -147,7 +147,7 @@ pub fn opj_jp2_apply_color_postprocessing(
 // From a file's bytes to its finished planes, in one step.
 
 // Reads a file and finishes its picture: the components, their samples and the two destinations are lent, as for finishing alone. A refusal of reading is answered as it is.
-// The promise includes demand 3: wherever one looks in the destinations, the sample is the right one; and what of it needs no premise.
+// The promise includes demand 3: wherever one looks in the destinations, the sample is the right one, and the order of the file's definitions does not matter; and what of it needs no premise.
 pub fn read_picture(
     file: &[u8],
     ignore: u32,

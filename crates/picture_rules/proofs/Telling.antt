@@ -1,16 +1,19 @@
 -- What the rules of demand 3 say of a point and of a record: a rule is of no use to a reader if it speaks of no row, no column or no record.
 -- Assumes nothing.
 use Prim.Native.Nat.{ℕ, _+_, _*_, _≤_, _<_}
-use mathlib.Core.Path.{_≡_, refl, ap, subst, _∙_}
+use mathlib.Core.Path.{_≡_, refl, sym, ap, subst, _∙_}
 use mathlib.Core.List.{List}
-use lib.ListN.{length}
+use native.Mathlib.Nat.{mul-le-mul-right}
+use native.Mathlib.Omega.{arith}
+use lib.IntN.{ℤ, pos}
+use lib.ListN.{length, drop, List·getD-append}
 use Rattle.read_record.specs.declared.Jp2.{Jp2}
-use Rattle.picture_rules.specs.Image.{Image, component, width, height, first, sampleAt}
+use Rattle.picture_rules.specs.Image.{Image, image, listed, component, width, height, first, noData, sampleAt}
 use Rattle.picture_rules.specs.Finish.{Finishing, finished}
 use Rattle.picture_rules.specs.Words.{Handed, Accepted, Empty, channelSample}
 use Rattle.picture_rules.specs.PictureRule.{FilledPlanes}
 use Rattle.picture_rules.specs.EveryPicture.{EveryPlane}
-use Rattle.picture_rules.specs.OrderFreedom.{withFile, AlikeButOrder, SamePlanes, OrderFreedom}
+use Rattle.picture_rules.specs.OrderFreedom.{withFile, AlikeButOrder, SamePlanes, SameDestinations, OrderFreedom}
 use Rattle.picture_rules.proofs.Orders.{only}
 
 -- at every point of channel c's plane is the channel's sample
@@ -46,3 +49,27 @@ tells-record planes others same p k l b = same .records p k l b
 pub tells-order :
     (h : Handed) (m : Jp2) (planes : Image) (every : EveryPlane h m planes) → m .lists .cdef .count ≡ 0 → (c : ℕ) → c < planes .count → every .filled .pairing .to c ≡ c
 tells-order h m planes every none c l = every .in-order none c l
+
+-- every number but the mark of every record is the same in both destinations
+pub tells-number :
+    (n : ℕ) (records others : List ℕ) (planes planes′ pixels pixels′ : List ℤ) → SameDestinations n records others planes planes′ pixels pixels′ →
+    (p k : ℕ) → p < n → k < 12 → component (listed others) p k ≡ component (listed records) p k
+tells-number n records others planes planes′ pixels pixels′ same p k l b = same .numbers p k l b
+
+-- so is every sample of every plane
+pub tells-both :
+    (n : ℕ) (records others : List ℕ) (planes planes′ pixels pixels′ : List ℤ) → SameDestinations n records others planes planes′ pixels pixels′ →
+    (p y x : ℕ) → p < n → (first (listed records) p ≡ noData → ⊥) → y < height (listed records) p → x < width (listed records) p →
+    sampleAt (image others n pixels′) p y x ≡ sampleAt (image records n planes′) p y x
+tells-both n records others planes planes′ pixels pixels′ same p y x l some b c =
+    let s = same .samples in
+    let start = first (listed records) p in
+    let wide = width (listed records) p in
+    let inside : start + y * wide + x < length s = omega (arith, same .all-in p l some, mul-le-mul-right wide b) in
+    rw (same .numbers p 11 l (omega arith), same .numbers p 2 l (omega arith), same .here, same .there)
+    (List·getD-append s (drop (length s) pixels) (pos 0) (start + y * wide + x) inside ∙ sym (List·getD-append s (drop (length s) planes) (pos 0) (start + y * wide + x) inside))
+
+-- and where both lists of samples had the same content before, they have it afterwards
+pub tells-samples :
+    (n : ℕ) (records others : List ℕ) (planes planes′ pixels′ : List ℤ) → SameDestinations n records others planes planes′ planes pixels′ → pixels′ ≡ planes′
+tells-samples n records others planes planes′ pixels′ same = same .there ∙ sym (same .here)

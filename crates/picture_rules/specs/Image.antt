@@ -1,8 +1,8 @@
 -- A picture before it is finished, and after: components of thirteen numbers each in one list, and one list of samples.
 use Prim.Native.Nat.{ℕ, _+_, _*_}
-use mathlib.Core.List.{List, []}
+use mathlib.Core.List.{List, [], _++_}
 use lib.IntN.{ℤ, pos}
-use lib.ListN.{getD}
+use lib.ListN.{length, getD, drop}
 use Rattle.box_number.specs.Table.{_=?_, otherwise, _⇒_∣_, table}
 use Rattle.read_record.specs.Component as comp
 pub use Rattle.read_record.specs.Component.{noData, mostComponents}
@@ -48,3 +48,7 @@ sampleAt i c y x = getD (i .samples) (indexOf (first i c) (width i c) y x) (pos 
 -- how many samples component c has
 unfoldable pub size : Image → ℕ → ℕ
 size i c = table (first i c =? noData ⇒ 0 ∣ otherwise (height i c * width i c))
+
+-- a destination d with a list at its front, and the rest as it was
+abbrev pub fronted : {A : Type 0} → List A → List A → List A
+fronted xs d = xs ++ drop (length xs) d

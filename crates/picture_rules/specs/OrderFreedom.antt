@@ -1,7 +1,9 @@
 -- Demand 3, order freedom: in whatever order a camera lists its definitions, the finished picture is the same.
-use Prim.Native.Nat.{ℕ, _<_}
+use Prim.Native.Nat.{ℕ, _+_, _*_, _≤_, _<_}
 use mathlib.Core.Path.{_≡_}
 use mathlib.Core.List.{List}
+use lib.IntN.{ℤ}
+use lib.ListN.{length}
 use Rattle.read_record.specs.declared.Jp2.{Jp2}
 use Rattle.read_record.specs.Answer.{accepted}
 use Rattle.read_record.specs.Component.{alpha}
@@ -10,7 +12,7 @@ use Rattle.read_rules.specs.Alike.{given, Alike}
 use Rattle.read_rules.specs.Alike as reading
 use Rattle.read_channels.specs.Definitions.{definitions}
 use Rattle.picture_rules.specs.Definitions.{Reordered}
-use Rattle.picture_rules.specs.Image.{Image, component}
+use Rattle.picture_rules.specs.Image.{Image, listed, component, width, height, first, noData, fronted}
 use Rattle.picture_rules.specs.Words.{Handed, Accepted, IsAccepted, Defined, Clear}
 
 -- the same picture with another file
@@ -29,6 +31,15 @@ pub record SamePlanes (planes others : Image) : Type 0 where
   pub count : others .count ≡ planes .count
   pub records : (p k : ℕ) → p < planes .count → k < alpha → component others p k ≡ component planes p k
   pub samples : others .samples ≡ planes .samples
+
+-- the same of the destinations, with n planes in front. `records` and `others` are two lists of records afterwards: their numbers are equal, marks aside. Of the lists of samples `planes` became `planes′`, and
+-- `pixels` became `pixels′`: both begin with the same finished samples, in which every plane lies, and behind them is what was there before
+pub record SameDestinations (n : ℕ) (records others : List ℕ) (planes planes′ pixels pixels′ : List ℤ) : Type 0 where
+  pub numbers : (p k : ℕ) → p < n → k < alpha → component (listed others) p k ≡ component (listed records) p k
+  pub samples : List ℤ
+  pub all-in : (p : ℕ) → p < n → (first (listed records) p ≡ noData → ⊥) → first (listed records) p + height (listed records) p * width (listed records) p ≤ length samples
+  pub here : planes′ ≡ fronted samples planes
+  pub there : pixels′ ≡ fronted samples pixels
 
 pub record OrderFreedom : Type 0 where
   -- both are accepted, with as many planes, or neither

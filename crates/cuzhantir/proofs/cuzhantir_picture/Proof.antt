@@ -12,7 +12,7 @@ returns : tie.Need-returns
 returns c =
     let d = c .before .before .before .before .before .args .answer .now in
     let h = c .if1 .taken in
-    (short answerLength d _ _ h, (short answerLength d _ _ h, (short answerLength d _ _ h, (short answerLength d _ _ h, λ l z. absurd (omega arith)))))
+    (short answerLength d _ _ h, (short answerLength d _ _ h, (short answerLength d _ _ h, (short answerLength d _ _ h, λ l. absurd (omega arith)))))
 
 read-picture-requires : tie.Need-read-picture-requires
 read-picture-requires c κs = tt
@@ -36,7 +36,7 @@ returns-2 c =
     let e = c .before .before .before .before .before .before .before .read-picture .ensures in
     let g = c .before .before .give-finished .ensures in
     let a = answer-given ofFinished d h (e .done .answer) g in
-    (a .0, (a .1, (long answerLength d _ _ h (e .done .numbers), (long answerLength d _ _ h (e .done .samples), told-right _ d _ (g .1) (e .right) (e .filled)))))
+    (a .0, (a .1, (long answerLength d _ _ h (e .done .numbers), (long answerLength d _ _ h (e .done .samples), told-right _ d _ (g .1) (e .demand3)))))
 
 pub cuzhantir-picture-spec : {M : Type 1} → statement M
 cuzhantir-picture-spec =
