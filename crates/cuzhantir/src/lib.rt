@@ -12,6 +12,7 @@ ghost use Rattle.export_rules.specs.Room.{room};
 ghost use Rattle.export_rules.specs.Numbers.{numbers, refusalNumber};
 ghost use Rattle.export_rules.specs.Answers.{ofFinished, ofWritten, returned};
 ghost use Rattle.export_rules.specs.FinishReading.{finishReading};
+ghost use Rattle.export_rules.specs.TwoSteps.{ReadingOf};
 ghost use Rattle.export_rules.specs.Rule.{ToldRight};
 ghost use Rattle.read_file.specs.File as jp2;
 ghost use Rattle.write_boxes.specs.Answers as written;
@@ -90,6 +91,7 @@ pub extern "C" fn cuzhantir_picture(
 }
 
 // Finishes a picture whose file was read before: reading has the 44 numbers of that reading. It gives the 4 numbers of the answer; where answer has no room for them nothing is done.
+// The last clause is demand 3, as for both in one step, where reading begins with the numbers that `cuzhantir_read` gives for this file.
 #[no_mangle]
 pub extern "C" fn cuzhantir_finish(
     file: &[u8],
@@ -106,6 +108,7 @@ pub extern "C" fn cuzhantir_finish(
     ensures { λ _. ⌜ now (answer .exit) ≡ room answerLength (now (answer .entry)) (now (answer .entry)) (placed (now (answer .entry)) 0 (ofFinished (answered (finishReading (handed (now (file .entry)) ignore (now (comps .entry)) count (now (samples .entry)) (now (records .entry)) (now (planes .entry))) (now (reading .entry)))))) ⌝ }
     ensures { λ _. ⌜ now (records .exit) ≡ room answerLength (now (answer .entry)) (now (records .entry)) (recordsAfter (finishReading (handed (now (file .entry)) ignore (now (comps .entry)) count (now (samples .entry)) (now (records .entry)) (now (planes .entry))) (now (reading .entry))) (now (records .entry))) ⌝ }
     ensures { λ _. ⌜ now (planes .exit) ≡ room answerLength (now (answer .entry)) (now (planes .entry)) (samplesAfter (finishReading (handed (now (file .entry)) ignore (now (comps .entry)) count (now (samples .entry)) (now (records .entry)) (now (planes .entry))) (now (reading .entry))) (now (planes .entry))) ⌝ }
+    ensures { λ _. ⌜ (ReadingOf (now (file .entry)) (now (reading .entry)) → ToldRight (handed (now (file .entry)) ignore (now (comps .entry)) count (now (samples .entry)) (now (records .entry)) (now (planes .entry))) (now (answer .entry)) (now (answer .exit)) (now (records .exit)) (now (planes .entry)) (now (planes .exit))) ⌝ }
 {
     if answer.len() < ANSWER_LENGTH {
         return TOO_SHORT;

@@ -1,9 +1,9 @@
 // Finishing a picture whose file was read before: the caller gives the reading as numbers and is not trusted.
 ghost use mathlib.Core.Path.{_≡_};
 ghost use Rattle.box_number.specs.Table.{holds};
-ghost use Rattle.picture_finish.specs.Answers.{answered, recordsAfter, samplesAfter};
 ghost use Rattle.picture_finish.specs.Whole.{handed};
-ghost use Rattle.export_rules.specs.FinishReading.{misnumbered, noReading, recordOf, finishReading};
+ghost use Rattle.export_rules.specs.FinishReading.{misnumbered, noReading, recordOf};
+ghost use Rattle.export_rules.specs.TwoSteps.{ReadingFinished};
 ghost use Rattle.cuzhantir.specs.Private.Taken.{Taken};
 use crate::numbers::READING_LENGTH;
 use crate::numbers::REFUSED;
@@ -104,7 +104,7 @@ fn record_of(xs: &[u64]) -> Jp2
     m
 }
 
-// Finishes a picture with the numbers of its file's reading. A refusal of reading is answered as it is.
+// Finishes a picture with the numbers of its file's reading. A refusal of reading is answered as it is. The promise includes demand 3, where the numbers are those of that reading.
 pub fn finish_reading(
     file: &[u8],
     reading: &[u64],
@@ -115,9 +115,7 @@ pub fn finish_reading(
     records: &mut [u32],
     planes: &mut [i32],
 ) -> Finished
-    ensures { λ r. ⌜ r ≡ answered (finishReading (handed (now (file .entry)) ignore (now (comps .entry)) count (now (samples .entry)) (now (records .entry)) (now (planes .entry))) (now (reading .entry))) ⌝ }
-    ensures { λ _. ⌜ now (records .exit) ≡ recordsAfter (finishReading (handed (now (file .entry)) ignore (now (comps .entry)) count (now (samples .entry)) (now (records .entry)) (now (planes .entry))) (now (reading .entry))) (now (records .entry)) ⌝ }
-    ensures { λ _. ⌜ now (planes .exit) ≡ samplesAfter (finishReading (handed (now (file .entry)) ignore (now (comps .entry)) count (now (samples .entry)) (now (records .entry)) (now (planes .entry))) (now (reading .entry))) (now (planes .entry)) ⌝ }
+    ensures { λ r. ⌜ ReadingFinished (handed (now (file .entry)) ignore (now (comps .entry)) count (now (samples .entry)) (now (records .entry)) (now (planes .entry))) (now (reading .entry)) r (now (records .entry)) (now (records .exit)) (now (planes .entry)) (now (planes .exit)) ⌝ }
 {
     if no_reading(reading) {
         return Finished::Refused(29, 0);

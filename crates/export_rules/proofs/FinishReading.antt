@@ -4,13 +4,10 @@ use Prim.Native.Nat.{ℕ}
 use mathlib.Core.Path.{_≡_, refl, sym}
 use mathlib.Core.Bool.{true, false}
 use mathlib.Core.List.{List}
-use lib.IntN.{ℤ}
 use lib.ListN.{getD}
 use Rattle.box_number.proofs.Rows.{Says, row}
 use Rattle.picture_rules.specs.Words.{Handed}
 use Rattle.picture_rules.specs.Finish.{declined, finish}
-use Rattle.picture_finish.specs.declared.Finished.the-variants.{Refused}
-use Rattle.picture_finish.specs.Answers.{answered, recordsAfter, samplesAfter}
 use Rattle.export_rules.specs.Places as at
 use Rattle.export_rules.specs.FinishReading.{noReading, recordOf, finishReading}
 
@@ -26,8 +23,3 @@ module _ (h : Handed) (xs : List ℕ) where
   pub on : Says false (noReading xs) → (getD xs at.kind 0 ≡ at.readingRefused → ⊥) → finishReading h xs ≡ finish h (recordOf xs)
   unfolding finishReading
   on f n = sym (row 2 _ (f, (n, tt)) refl)
-
-  -- a refusal, and both destinations as they were
-  pub declines : {number place : ℕ} (records : List ℕ) (planes : List ℤ) → finishReading h xs ≡ declined number place → (Refused number place ≡ answered (finishReading h xs)) × ((records ≡ recordsAfter (finishReading h xs) records) × (planes ≡ samplesAfter (finishReading h xs) planes))
-  unfolding answered recordsAfter samplesAfter
-  declines records planes e = (rw e refl, (rw e refl, rw e refl))

@@ -1,28 +1,43 @@
 -- Reading a file and then finishing its picture is the same as both in one step.
-use Prim.Native.Nat.{ℕ, _≤_, _<_}
+use Prim.Native.Nat.{ℕ, _<_}
 use mathlib.Core.Path.{_≡_}
 use mathlib.Core.List.{List}
-use lib.ListN.{getD}
+use lib.IntN.{ℤ}
+use lib.ListN.{getD, take}
+use Rattle.box_number.specs.Number.{placed}
 use Rattle.read_record.specs.declared.Jp2.{Jp2}
 use Rattle.read_record.specs.Record.{blank}
-use Rattle.read_record.specs.Answer.{accepted}
 use Rattle.read_file.specs.File.{read, reading}
-use Rattle.read_rules.specs.Alike.{given}
 use Rattle.picture_rules.specs.Words.{Handed}
-use Rattle.picture_finish.specs.Whole.{pictured}
+use Rattle.picture_rules.specs.OrderFreedom.{AlikeButOrder}
+use Rattle.picture_finish.specs.declared.Finished.{Finished}
+use Rattle.picture_finish.specs.Answers.{Done}
+use Rattle.picture_finish.specs.Whole.{pictured, Demand3}
+use Rattle.export_rules.specs.Places.{readingLength}
 use Rattle.export_rules.specs.Numbers.{numbers}
-use Rattle.export_rules.specs.FinishReading.{largest, finishReading}
+use Rattle.export_rules.specs.FinishReading.{finishReading}
 
--- the palette's sizes have 32 bits, as the record's fields have
-pub record Fits (m : Jp2) : Type 0 where
-  pub entries : m .lists .pclr .entries ≤ largest
-  pub columns : m .lists .pclr .columns ≤ largest
+-- a file of bytes, as every slice of them is
+abbrev pub FileOfBytes : List ℕ → Type 0
+FileOfBytes f = (i : ℕ) → getD f i 0 < 256
 
--- reading and then finishing gives the same as both in one step
+-- a list that begins with the numbers of the file's reading, whatever follows them
+abbrev pub ReadingOf : List ℕ → List ℕ → Type 0
+ReadingOf f xs = take readingLength xs ≡ numbers (reading blank (read f))
+
+-- what reading a file leaves in any list is such a list
+abbrev pub ReadingGiven : Type 0
+ReadingGiven = (f d : List ℕ) → ReadingOf f (placed d 0 (numbers (reading blank (read f))))
+
+-- it is one for every other file too that is alike in all but the order of definitions: one reading serves both
+abbrev pub ReadingShared : Type 0
+ReadingShared = (h : Handed) (g : List ℕ) (m : Jp2) (xs : List ℕ) → AlikeButOrder h g m → ReadingOf (h .file) xs → ReadingOf g xs
+
+-- finishing with it gives the same as both in one step
 abbrev pub TwoSteps : Type 0
-TwoSteps = (h : Handed) → Fits ((reading blank (read (h .file))) .jp2) → finishReading h (numbers (reading blank (read (h .file)))) ≡ pictured h
+TwoSteps = (h : Handed) (xs : List ℕ) → FileOfBytes (h .file) → ReadingOf (h .file) xs → finishReading h xs ≡ pictured h
 
--- the premise holds: for the record before any box, and for that of every file of bytes that has a palette
-pub record FitsMet : Type 0 where
-  pub none : Fits blank
-  pub palette : (f : List ℕ) (m : Jp2) → ((i : ℕ) → getD f i 0 < 256) → given (read f) ≡ accepted m → (m .lists .pclr .columns ≡ 0 → ⊥) → Fits m
+-- the promise of finishing with a list xs: the answer, both destinations and, where xs is a reading of the file, demand 3
+pub record ReadingFinished (h : Handed) (xs : List ℕ) (r : Finished) (records records′ : List ℕ) (planes planes′ : List ℤ) : Type 0 where
+  pub done : Done (finishReading h xs) r records records′ planes planes′
+  pub demand3 : ReadingOf (h .file) xs → Demand3 h r records′ planes planes′
