@@ -21,7 +21,7 @@ use Rattle.picture_rules.specs.Handed.{Handed, settings}
 use Rattle.picture_rules.specs.Channels.{channels, componentOf, typeOf}
 use Rattle.picture_rules.specs.Samples.{displayed, lookup, valueFor, valueOf, channelSamples, packed, startOf}
 use Rattle.picture_rules.specs.Finish.{Finishing, finished, declined, counted, expanded, picture, fitted, colourChecks, checks, finish}
-use Rattle.picture_rules.specs.Cases.{mapping, definitionFields}
+use Rattle.picture_rules.specs.Boxes.{mapping, definitionFields}
 
 -- a component, or a finished record, by the name of the component whose numbers it has: the six numbers that finishing looks at or sets are said, the other seven differ by name and by position
 infix 70 _wide_high_bits_sign_at_mark_

@@ -15,6 +15,6 @@ pub mod Words
 pub mod PictureRule
 pub mod EveryPicture
 pub mod OrderFreedom
-pub mod Cases
+pub mod Boxes
 pub mod FinishingCases
 pub mod Met

@@ -1,4 +1,4 @@
--- The marked cases of document 01 on order, and definitions that are passed over, as one table that is computed whole. Planes are named by the record at their position; every record has mark 9 at the start.
+-- Order alone, as one table that is computed whole: lists of definitions, and definitions that are passed over. Planes are named by the record at their position; every record has mark 9 at the start.
 use Prim.Native.Nat.{ℕ, zero, suc}
 use mathlib.Core.Path.{_≡_, refl}
 use mathlib.Core.List.{List, [], _∷_, _++_}

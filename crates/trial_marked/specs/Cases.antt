@@ -43,7 +43,7 @@ use Rattle.picture_rules.specs.Handed.{settings}
 use Rattle.picture_rules.specs.Channels.{channels, componentOf, typeOf}
 use Rattle.picture_rules.specs.Samples.{displayed, lookup, valueFor, valueOf, channelSamples, packed, startOf}
 use Rattle.picture_rules.specs.Finish.{Finishing, finished, counted, expanded, picture, fitted, colourChecks, checks, finish}
-use Rattle.picture_rules.specs.Cases.{paletteBox, mapping, mappingBox, definitionBox, fileOf}
+use Rattle.picture_rules.specs.Boxes.{paletteBox, mapping, mappingBox, definitionBox, fileOf}
 
 infix 70 _mark_
 -- a plane of one sample, and its mark

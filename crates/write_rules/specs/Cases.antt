@@ -1,4 +1,4 @@
--- The marked case of document 01 on writing, and one request for each row of the table, computed as a whole.
+-- Writing, computed as a whole: document 01's grey picture, the boxes that follow from marks, colour spaces and profiles, and requests on both sides of each bound of the table.
 use Prim.Native.Nat.{ℕ, zero, suc}
 use mathlib.Core.Path.{_≡_, refl}
 use mathlib.Core.List.{List, [], _∷_, _++_}
@@ -201,9 +201,9 @@ abbrev pub expected : Cases → List Writing
 expected end = []
 expected (r gives w ∣ rest) = w ∷ expected rest
 
-pub marked-cases : results cases ≡ expected cases
+pub writing-cases : results cases ≡ expected cases
 unfolding table lowest bytes boxHeader box series wrapping BPCi BPC METH EnumCS colours markCount N writtenDefinition bpcc specification cdef front setUp writeFields write
-marked-cases = refl
+writing-cases = refl
 
 -- 77 and 85
 pub lengths : _≡_ {A = ℕ × ℕ} (length greyBoxes, length (greyBoxes ++ greyStream)) (77, 85)
