@@ -160,6 +160,10 @@ besidePlanes =
     B wide 2 high 1 bits 8 sign 0 at 0 mark 7 ∷ A wide 3 high 2 bits 12 sign 1 at 2 mark 5 ∷ []
     over pos 20 ∷ pos 10 ∷ pos 3000 ∷ pos 3001 ∷ pos 3002 ∷ pos 3003 ∷ pos 3004 ∷ minus 5 ∷ []
 
+-- component 0 looked up in each of three columns
+abbrev pub ownColumns : List ℕ
+ownColumns = mapping 0 1 0 ++ mapping 0 1 1 ++ mapping 0 1 2
+
 -- two columns, or three, of 8 bits and two rows
 abbrev pub twoColumns : List ℕ → List Def → Lists
 twoColumns mappings ds = mapped 2 (7 ∷ 7 ∷ []) (10 ∷ 11 ∷ 20 ∷ 21 ∷ []) mappings ds
@@ -186,7 +190,7 @@ nineBits = before ++ 8 ∷ two 258 ++ two 259
 
 -- a file with a palette of two columns and one entry at 3, and mappings from 7 on
 abbrev pub threeMappings : List ℕ
-threeMappings = before ++ 7 ∷ 7 ∷ 10 ∷ 11 ∷ [] ++ mapping 0 1 0 ++ mapping 0 1 1 ++ mapping 0 1 2
+threeMappings = before ++ 7 ∷ 7 ∷ 10 ∷ 11 ∷ [] ++ ownColumns
 
 -- a file with two definitions at 3, 15 bytes in all
 abbrev pub twoDefinitions : List ℕ
@@ -198,7 +202,7 @@ cases =
     A wide 3 high 1 bits 8 sign 0 at 0 mark 6 ∷ [] over pos 0 ∷ pos 1 ∷ pos 2 ∷ []
     with mapped 3 (31 ∷ 135 ∷ 8 ∷ [])
     (four 2147483647 ++ 255 ∷ two 258 ++ four 2147483648 ++ 128 ∷ two 511 ++ four 4294967295 ++ 0 ∷ two 0)
-    (mapping 0 1 0 ++ mapping 0 1 1 ++ mapping 0 1 2) []
+    ownColumns []
     into enough gives
     finished (A wide 3 high 1 bits 32 sign 0 at 0 mark 6 ∷ A wide 3 high 1 bits 8 sign 1 at 3 mark 6 ∷ A wide 3 high 1 bits 9 sign 0 at 6 mark 6 ∷ []
     over pos 2147483647 ∷ minus 2147483648 ∷ minus 1 ∷ pos 255 ∷ pos 128 ∷ pos 0 ∷ pos 258 ∷ pos 511 ∷ pos 0 ∷ []) ∣
@@ -223,7 +227,7 @@ cases =
     -- no component
     [] over [] with plain into room 0 0 gives finished ([] over []) ∣
     -- more columns than components, and fewer
-    one (pos 1) with threeColumns (mapping 0 1 0 ++ mapping 0 1 1 ++ mapping 0 1 2) [] into enough gives points A (pos 20 ∷ pos 21 ∷ pos 22 ∷ []) ∣
+    one (pos 1) with threeColumns ownColumns [] into enough gives points A (pos 20 ∷ pos 21 ∷ pos 22 ∷ []) ∣
     pair with mapped 2 (7 ∷ []) (10 ∷ 20 ∷ []) (mapping 1 1 0) [] into enough gives points B (pos 20 ∷ []) ∣
     -- a palette without mappings is dropped
     one (pos 1) with lists nineBits (palette 3 2 1) none none into enough gives points A (pos 1 ∷ []) ∣
@@ -257,7 +261,7 @@ cases =
     four-points with defined (def 1 0 2 ∷ []) into enough gives declined 26 2 ∣
     four-points with defined (def 2 0 1 ∷ def 1 0 2 ∷ []) into enough gives declined 26 3 ∣
     three with defined (def 2 8 0 ∷ def 1 7 0 ∷ []) into enough gives threeMarked 9 7 8 ∣
-    one (pos 1) with threeColumns (mapping 0 1 0 ++ mapping 0 1 1 ++ mapping 0 1 2) (def 1 0 2 ∷ []) into enough gives declined 26 2 ∣
+    one (pos 1) with threeColumns ownColumns (def 1 0 2 ∷ []) into enough gives declined 26 2 ∣
     pair with mapped 2 (7 ∷ []) (10 ∷ 20 ∷ []) (mapping 1 1 0) (def 0 9 0 ∷ []) into enough gives points B (pos 20 ∷ []) ∣
     -- 27, the lowest mapping: another column than its own; no such component; a direct one with a column; another type
     one (pos 1) with threeColumns (mapping 0 1 0 ++ mapping 0 1 2 ++ mapping 0 1 0) [] into enough gives declined 27 1 ∣
@@ -278,24 +282,24 @@ cases =
     sizes with beside into room 25 8 gives declined 30 26 ∣
     sizes with beside into room 26 7 gives declined 30 8 ∣
     sizes with beside into room 26 8 gives finished besidePlanes ∣
-    one (pos 1) with threeColumns (mapping 0 1 0 ++ mapping 0 1 1 ++ mapping 0 1 2) [] into room 38 2 gives declined 30 39 ∣
-    one (pos 1) with threeColumns (mapping 0 1 0 ++ mapping 0 1 1 ++ mapping 0 1 2) [] into room 39 2 gives declined 30 3 ∣
+    one (pos 1) with threeColumns ownColumns [] into room 38 2 gives declined 30 39 ∣
+    one (pos 1) with threeColumns ownColumns [] into room 39 2 gives declined 30 3 ∣
     blankFirst with plain into room 26 0 gives declined 30 1 ∣
     -- with the ignore flag it is the components that need room
-    one (pos 1) with threeColumns (mapping 0 1 0 ++ mapping 0 1 1 ++ mapping 0 1 2) [] into record { ignore = 1; records = 12; samples = 0 } gives declined 30 13 ∣
-    one (pos 1) with threeColumns (mapping 0 1 0 ++ mapping 0 1 1 ++ mapping 0 1 2) [] into record { ignore = 1; records = 13; samples = 1 } gives points A (pos 1 ∷ []) ∣
-    -- 29: a record that is cut short, and one more number than records
+    one (pos 1) with threeColumns ownColumns [] into record { ignore = 1; records = 12; samples = 0 } gives declined 30 13 ∣
+    one (pos 1) with threeColumns ownColumns [] into record { ignore = 1; records = 13; samples = 1 } gives points A (pos 1 ∷ []) ∣
+    -- 29: a list of components that is one number short; one that is longer than the count asks for
     image (take 25 (joined (point A 0 ∷ point B 1 ∷ []))) 2 (pos 0 ∷ pos 1 ∷ []) with plain into enough gives declined 29 0 ∣
     image (joined (point A 0 ∷ point B 1 ∷ [])) 1 (pos 0 ∷ pos 1 ∷ []) with plain into enough gives points A (pos 0 ∷ []) ∣
     -- a plane whose last sample is just outside, and just inside; the last plane too
     A wide 3 high 2 bits 8 sign 0 at 4 mark 9 ∷ [] over take 9 lent with plain into enough gives declined 29 0 ∣
     A wide 1 high 2 bits 8 sign 0 at 9 mark 9 ∷ [] over lent with plain into enough gives
     finished (A wide 1 high 2 bits 8 sign 0 at 0 mark 9 ∷ [] over minus 5 ∷ pos 92 ∷ []) ∣
-    point A 0 ∷ A wide 2 high 1 bits 8 sign 0 at 10 mark 9 ∷ [] over lent with plain into enough gives declined 29 0 ∣
+    point A 0 ∷ B wide 2 high 1 bits 8 sign 0 at 10 mark 9 ∷ [] over lent with plain into enough gives declined 29 0 ∣
     -- a plane without area: at the end of the list, and past it
     A wide 0 high 5 bits 8 sign 0 at 11 mark 9 ∷ [] over lent with plain into enough gives finished (A wide 0 high 5 bits 8 sign 0 at 0 mark 9 ∷ [] over []) ∣
     A wide 5 high 0 bits 8 sign 0 at 12 mark 9 ∷ [] over lent with plain into enough gives declined 29 0 ∣
-    -- a palette of no entry; of 1025, and of 256 columns, though both lie in the file; with one entry, or one byte of the file, too many or too few; one of no columns is none
+    -- a palette of no entry; of 1025 entries, and of 256 columns, though both lie in the file; of one entry more than the file holds, and in a file one byte short; one of no columns is none
     one (pos 1) with lists nineBits (palette 3 0 1) none none into enough gives declined 29 0 ∣
     one (pos 1) with lists (before ++ 7 ∷ replicate 1025 5) (palette 3 1025 1) none none into enough gives declined 29 0 ∣
     one (pos 1) with lists (before ++ replicate 512 0) (palette 3 1 255) none none into enough gives points A (pos 1 ∷ []) ∣
@@ -303,14 +307,14 @@ cases =
     one (pos 1) with lists nineBits (palette 3 3 1) none none into enough gives declined 29 0 ∣
     one (pos 1) with lists (take 7 nineBits) (palette 3 2 1) none none into enough gives declined 29 0 ∣
     one (pos 1) with lists [] (palette 9999 1025 0) none none into enough gives points A (pos 1 ∷ []) ∣
-    -- another number of mappings than of columns; one byte short; without a palette; none at all, wherever its place is
+    -- another number of mappings than of columns; mappings up to the end of the file, and one byte short; without a palette; none at all, wherever their place is
     one (pos 1) with lists threeMappings (palette 3 1 2) (span 7 1) none into enough gives declined 29 0 ∣
     one (pos 1) with lists threeMappings (palette 3 1 2) (span 7 3) none into enough gives declined 29 0 ∣
     one (pos 1) with lists (take 15 threeMappings) (palette 3 1 2) (span 7 2) none into enough gives points A (pos 10 ∷ pos 11 ∷ []) ∣
     one (pos 1) with lists (take 14 threeMappings) (palette 3 1 2) (span 7 2) none into enough gives declined 29 0 ∣
     one (pos 1) with lists threeMappings noPalette (span 7 2) none into enough gives declined 29 0 ∣
     one (pos 1) with lists [] noPalette (span 9999 0) (span 9999 0) into enough gives points A (pos 1 ∷ []) ∣
-    -- definitions one byte short
+    -- definitions up to the end of the file, and one byte short
     pair with lists twoDefinitions noPalette none (span 3 2) into enough gives
     finished (B wide 1 high 1 bits 8 sign 0 at 1 mark 0 ∷ point A 0 ∷ [] over pos 0 ∷ pos 1 ∷ []) ∣
     pair with lists (take 14 twoDefinitions) noPalette none (span 3 2) into enough gives declined 29 0 ∣
