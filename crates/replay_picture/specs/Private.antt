@@ -1,2 +1,3 @@
 -- Terms of the contracts of private functions. No public contract names them.
 pub mod Listed
+pub mod Compared

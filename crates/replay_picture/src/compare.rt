@@ -1,4 +1,8 @@
 // Compares a picture's answer and destinations with the list. Prints the first difference.
+ghost use mathlib.Core.Path.{_≡_};
+ghost use lib.ListN.{length};
+ghost use Rattle.box_number.specs.Lowest.{lowest};
+ghost use Rattle.replay_picture.specs.Private.Compared.{answerDiffers, recordDiffers, sampleDiffers, answerLength, differing, countOf};
 use crate::list;
 use crate::put;
 use test_lines::at;
@@ -19,7 +23,9 @@ pub(crate) fn outcome(
     answer: &[u64],
     records: &[u32],
     planes: &[i32],
-) -> usize {
+) -> usize
+    ensures { λ r. ⌜ r ≡ countOf (now (picture .entry)) (now (answer .entry)) (now (records .entry)) (now (planes .entry)) ⌝ }
+{
     if picture.len() == 0 {
         return differs(b"case #: the list has ended\n", i, 0);
     }
@@ -38,13 +44,17 @@ pub(crate) fn outcome(
     at(answer, ANSWER_NUMBER) as usize
 }
 
-fn differs(shape: &[u8], i: u32, k: usize) -> usize {
+fn differs(shape: &[u8], i: u32, k: usize) -> usize
+    ensures { λ r. ⌜ r ≡ differing ⌝ }
+{
     say(shape, &[i as usize, k]);
     DIFFERING
 }
 
 // The first number of the answer that differs, 4 where none does.
-fn first_number(picture: &[u8], answer: &[u64]) -> usize {
+fn first_number(picture: &[u8], answer: &[u64]) -> usize
+    ensures { λ r. ⌜ r ≡ lowest (answerDiffers (now (picture .entry)) (now (answer .entry))) answerLength ⌝ }
+{
     let mut k = 0;
     while k < ANSWER_LENGTH {
         if at(answer, k) != list::answer_number(picture, k) {
@@ -56,7 +66,9 @@ fn first_number(picture: &[u8], answer: &[u64]) -> usize {
 }
 
 // The first record that differs, of those behind the picture too; all where none does.
-fn first_record(listed: &[u8], records: &[u32]) -> usize {
+fn first_record(listed: &[u8], records: &[u32]) -> usize
+    ensures { λ r. ⌜ r ≡ lowest (recordDiffers (now (listed .entry)) (now (records .entry))) (length (now (records .entry))) ⌝ }
+{
     let mut k = 0;
     while k < records.len() {
         if records[k] != put::expected(listed, k) {
@@ -68,7 +80,9 @@ fn first_record(listed: &[u8], records: &[u32]) -> usize {
 }
 
 // The first sample that differs, in the same way.
-fn first_sample(listed: &[u8], planes: &[i32]) -> usize {
+fn first_sample(listed: &[u8], planes: &[i32]) -> usize
+    ensures { λ r. ⌜ r ≡ lowest (sampleDiffers (now (listed .entry)) (now (planes .entry))) (length (now (planes .entry))) ⌝ }
+{
     let mut k = 0;
     while k < planes.len() {
         if planes[k] != list::signed(put::expected(listed, k)) {
