@@ -1,11 +1,15 @@
 // A case, the answer of a reader, and numbers of the record after it.
+ghost use mathlib.Core.Path.{_≡_};
 use libc::STDOUT_FILENO;
 use read_record::Answer;
 use read_record::Jp2;
 use read_record::Outcome;
 use test_lines::say;
 
-pub(crate) fn came(case: &[u8], r: Outcome) -> Jp2 {
+// Gives the record.
+pub(crate) fn came(case: &[u8], r: Outcome) -> Jp2
+    ensures { λ j. ⌜ j ≡ r .jp2 ⌝ }
+{
     io::write_all(STDOUT_FILENO, case);
     let a = r.answer;
     answer(a);
