@@ -1,27 +1,13 @@
 -- The two laws of tables: `row` for the code, one line for each return, and `each` for what holds of every answer.
 -- Assumes nothing.
-use Prim.Native.Nat.{ℕ, zero, suc, _≤_, _<_}
+use Prim.Native.Nat.{ℕ, zero, suc}
 use mathlib.Core.Path.{_≡_, refl}
 use mathlib.Core.Bool.{Bool, true, false}
 use native.Mathlib.Omega.{arith}
 use lib.Dec.{eqb}
 use borrow.Author.Tests.{eqb-true, eqb-false, ltb-true, ltb-false, not-true, not-false}
 use Rattle.box_number.specs.Table.{Test, _=?_, _≠?_, _<?_, flag, _or_, _and_, Rows, otherwise, _⇒_∣_, holds, table}
-
--- what is known of the numbers where a test holds (true) and where it fails (false)
-abbrev pub Says : Bool → Test → Type 0
-Says true (m =? n) = m ≡ n
-Says false (m =? n) = m ≡ n → ⊥
-Says true (m ≠? n) = m ≡ n → ⊥
-Says false (m ≠? n) = m ≡ n
-Says true (m <? n) = m < n
-Says false (m <? n) = n ≤ m
-Says true (flag b) = b ≡ true
-Says false (flag b) = b ≡ false
-Says true (s or t) = Says false s → Says true t
-Says false (s or t) = Says false s × Says false t
-Says true (s and t) = Says true s × Says true t
-Says false (s and t) = Says true s → Says false t
+pub use Rattle.box_number.specs.Table.{Says}
 
 pub true-false : {X : Type 0} → true ≡ false → X
 true-false e = let z : _≡_ {A = ℕ} 0 1 = cc in absurd (omega arith)

@@ -3,8 +3,7 @@
 ghost use Prim.Native.Nat.{_*_, _≤_};
 ghost use mathlib.Core.Path.{_≡_};
 ghost use lib.ListN.{length};
-ghost use Rattle.box_number.specs.Table.{_and_, holds};
-ghost use Rattle.box_number.proofs.Rows.{Says};
+ghost use Rattle.box_number.specs.Table.{_and_, holds, Says};
 ghost use Rattle.read_record.specs.Component.{numbersEach};
 ghost use Rattle.read_channels.specs.Definitions.{definitionsOutside};
 ghost use mathlib.Core.Bool.{false};

@@ -4,7 +4,7 @@ use mathlib.Core.Path.{_≡_}
 use mathlib.Core.Bool.{false}
 use mathlib.Core.List.{List}
 use lib.ListN.{getD}
-use Rattle.box_number.proofs.Rows.{Says}
+use Rattle.box_number.specs.Table.{Says}
 use Rattle.read_record.specs.declared.Span.{Span}
 use Rattle.read_record.specs.Component.{numbersEach}
 use Rattle.read_channels.specs.Definitions.{definitions}

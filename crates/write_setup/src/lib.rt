@@ -1,8 +1,7 @@
 // What is to be written of a picture (`opj_jp2_setup_encoder` of jp2.rs): the fields of all boxes, from its components, corners, colour space and profile.
 ghost use mathlib.Core.Path.{_≡_};
 ghost use mathlib.Core.Bool.{false};
-ghost use Rattle.box_number.specs.Table.{_≠?_, otherwise, _⇒_∣_, holds, table};
-ghost use Rattle.box_number.proofs.Rows.{Says};
+ghost use Rattle.box_number.specs.Table.{_≠?_, otherwise, _⇒_∣_, holds, table, Says};
 ghost use Rattle.box_number.specs.Lowest.{lowest};
 ghost use Rattle.write_rules.specs.Request.{request, alphaOf};
 ghost use Rattle.write_rules.specs.Setup.{otherBits, BPC, METH, EnumCS, colours, markCount, opacity, N, ill, setUp};

@@ -5,8 +5,7 @@ use mathlib.Core.Bool.{false}
 use mathlib.Core.List.{List, map}
 use lib.IntN.{ℤ}
 use lib.ListN.{length}
-use Rattle.box_number.specs.Table.{_=?_, otherwise, _⇒_∣_, table}
-use Rattle.box_number.proofs.Rows.{Says}
+use Rattle.box_number.specs.Table.{_=?_, otherwise, _⇒_∣_, table, Says}
 use Rattle.read_record.specs.declared.Span.{Span}
 use Rattle.read_record.specs.declared.Jp2.{Jp2}
 use Rattle.read_record.specs.Record.{blank, withCmap}

@@ -2,7 +2,7 @@
 use Prim.Native.Nat.{ℕ, _≤_, _<_}
 use mathlib.Core.Bool.{false}
 use mathlib.Core.List.{List}
-use Rattle.box_number.proofs.Rows.{Says}
+use Rattle.box_number.specs.Table.{Says}
 use Rattle.read_record.specs.Component.{mostComponents}
 use Rattle.write_rules.specs.declared.Fields.{Fields}
 use Rattle.write_rules.specs.Setup.{ill}
