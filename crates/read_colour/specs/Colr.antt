@@ -7,6 +7,7 @@ use Rattle.box_number.specs.Number.{number}
 use Rattle.box_number.specs.Table.{_=?_, _≠?_, _<?_, _and_, otherwise, _⇒_∣_, table}
 use Rattle.read_record.specs.declared.Lab.{Lab}
 use Rattle.read_record.specs.declared.Colour.{Colour}
+use Rattle.read_record.specs.declared.Span.{Span}
 use Rattle.read_record.specs.declared.Jp2.{Jp2}
 use Rattle.read_record.specs.Record.{span, withColour, withIcc}
 use Rattle.read_record.specs.Answer.{Result, accepted, refused}
@@ -48,6 +49,13 @@ lab c =
     ∣ length c =? 35 ⇒ record { numbers = cielab ∷ 0 ∷ number c 7 4 ∷ number c 11 4 ∷ number c 15 4 ∷ number c 19 4 ∷ number c 23 4 ∷ number c 27 4 ∷ number c 31 4 ∷ []; count = 9 }
     ∣ otherwise (record { numbers = cielab ∷ defaults ∷ 0 ∷ 0 ∷ 0 ∷ 0 ∷ 0 ∷ 0 ∷ D50 ∷ []; count = 9 }))
 
+-- no CIELab, and no profile; the crate has one slot for both, so that each takes the place of the other
+abbrev pub noLab : Lab
+noLab = record { numbers = 0 ∷ 0 ∷ 0 ∷ 0 ∷ 0 ∷ 0 ∷ 0 ∷ 0 ∷ 0 ∷ []; count = 0 }
+
+abbrev pub noProfile : Span
+noProfile = span 0 0
+
 -- the three fields, and what METH makes of the rest
 abbrev pub specified : List ℕ → ℕ → Lab → ℕ → Colour
 specified c enumcs l held = record { meth = METH c; precedence = PREC c; approx = APPROX c; enumcs = enumcs; lab = l; held = held }
@@ -60,7 +68,7 @@ colr place start c j =
     (length c <? 3 ⇒ refused 16 place
     ∣ k .held ≠? 0 ⇒ accepted j
     ∣ METH c =? enumerated and length c <? 7 ⇒ refused 16 place
-    ∣ METH c =? enumerated and EnumCS c =? cielab ⇒ accepted (withColour (specified c cielab (lab c) 1) j)
+    ∣ METH c =? enumerated and EnumCS c =? cielab ⇒ accepted (withIcc noProfile (withColour (specified c cielab (lab c) 1) j))
     ∣ METH c =? enumerated ⇒ accepted (withColour (specified c (EnumCS c) (k .lab) 1) j)
-    ∣ METH c =? profiled ⇒ accepted (withIcc (span (start + 3) (length c - 3)) (withColour (specified c (k .enumcs) (k .lab) 1) j))
+    ∣ METH c =? profiled ⇒ accepted (withIcc (span (start + 3) (length c - 3)) (withColour (specified c (k .enumcs) noLab 1) j))
     ∣ otherwise (accepted (withColour (specified c (k .enumcs) (k .lab) (k .held)) j)))

@@ -1,1 +1,2 @@
 pub mod Colr
+pub mod Cases

@@ -56,6 +56,7 @@ fn read_lab(c: &[u8]) -> Lab
     }
 }
 
+// The crate has one slot for CIELab and the profile, so that each clears the other.
 pub fn opj_jp2_read_colr(c: &[u8], place: u32, start: u32, j: Jp2) -> Outcome
     ensures { λ r. ⌜ r ≡ answer j (colr place start (now (c .entry)) j) ⌝ }
 {
@@ -79,8 +80,12 @@ pub fn opj_jp2_read_colr(c: &[u8], place: u32, start: u32, j: Jp2) -> Outcome
         colour.held = 1;
         if colour.enumcs == CIELAB {
             let lab = read_lab(c);
+            let none = Span { place: 0, count: 0 };
+            let mut lists = j.lists;
+            lists.icc = none;
             colour.lab = lab;
             k.colour = colour;
+            k.lists = lists;
             return Outcome::done(k);
         }
         k.colour = colour;
@@ -91,13 +96,19 @@ pub fn opj_jp2_read_colr(c: &[u8], place: u32, start: u32, j: Jp2) -> Outcome
             place: start as usize + FIELDS_BYTES,
             count: n - FIELDS_BYTES,
         };
+        let none = Lab {
+            numbers: [0, 0, 0, 0, 0, 0, 0, 0, 0],
+            count: 0,
+        };
         let mut lists = j.lists;
         lists.icc = icc;
+        colour.lab = none;
         colour.held = 1;
         k.colour = colour;
         k.lists = lists;
         return Outcome::done(k);
     }
+    // METH 0 or above 2: the three fields, and no colour is held.
     k.colour = colour;
     Outcome::done(k)
 }

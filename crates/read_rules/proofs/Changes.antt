@@ -29,6 +29,7 @@ pub data Change (start : ℕ) (c : List ℕ) (j : Jp2) : Jp2 → Type 0 where
   sized : (i : Image) → i .numcomps ≤ 16384 → Change start c j (withHasIhdr (withImage i j))
   deep : Change start c j (withBpcc (span start (length c)) j)
   tinted : (k : Colour) → (Tinted (j .colour) → Tinted k) → Change start c j (withColour k j)
+  cielab : (k : Colour) → (Tinted (j .colour) → Tinted k) → Change start c j (withIcc (span 0 0) (withColour k j))
   profiled : (k : Colour) → (Tinted (j .colour) → Tinted k) → 3 ≤ length c → Change start c j (withIcc (span (start + 3) (length c - 3)) (withColour k j))
   indexed : j .lists .pclr .columns ≡ 0 → 1 ≤ NE c → NE c ≤ 1024 → 1 ≤ NPC c → 3 + NPC c + NE c * rowBytes c 3 (NPC c) ≤ length c → Change start c j (withPclr (palette (start + 3) (NE c) (NPC c)) j)
   mapped : (j .lists .pclr .columns ≡ 0 → ⊥) → 4 * j .lists .pclr .columns ≤ length c → Change start c j (withCmap (span start (j .lists .pclr .columns)) j)

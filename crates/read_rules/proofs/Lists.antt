@@ -13,8 +13,8 @@ use Rattle.read_rules.specs.Range.{Range, end}
 use Rattle.read_rules.specs.Apart.{entries, rows, kept, ListsApart}
 use Rattle.read_rules.proofs.Sames.{within, row-same}
 use Rattle.read_rules.proofs.Parts.{Lies}
-use Rattle.read_rules.proofs.Changes.{Change, marked, typed, sized, deep, tinted, profiled, indexed, mapped, defined, Law}
-use Rattle.read_rules.proofs.Ranges.{Placed, put, placed-none, placed-later, placed-put}
+use Rattle.read_rules.proofs.Changes.{Change, marked, typed, sized, deep, tinted, cielab, profiled, indexed, mapped, defined, Law}
+use Rattle.read_rules.proofs.Ranges.{Placed, put, placed-none, placed-later, placed-empty, placed-put}
 use Rattle.read_rules.proofs.Definitions.{read-moves}
 
 -- a palette's columns in its box are its columns in the file
@@ -34,6 +34,7 @@ module _ (f : List ℕ) (start : ℕ) (c : List ℕ) (j : Jp2) (p : Placed start
   placed-change m lies (sized i h) = none
   placed-change m lies deep = new 1 (entries 1 (m .lists .bpcc)) (omega arith) (omega arith)
   placed-change m lies (tinted k g) = none
+  placed-change m lies (cielab k g) = placed-empty (start + length c) 2 (kept f j) none
   placed-change m lies (profiled k g h) = new 2 (entries 1 (m .lists .icc)) (omega arith) (omega arith)
   placed-change m lies (indexed z ne most npc room) =
       let e : NE c * rowBytes c 3 (NPC c) ≡ NE c * rowBytes f (start + 3) (NPC c) = ap (λ (x : ℕ). NE c * x) (rows-lie lies (omega arith)) in

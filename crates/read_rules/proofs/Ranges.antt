@@ -53,6 +53,21 @@ pub placed-none : (rs : List Range) → Inside 0 rs → Placed 0 rs
 placed-none [] p = (tt, tt)
 placed-none (r ∷ rs) p = (p, (apart-all r rs (inside-later rs (omega arith) (p .1)), (placed-none rs (p .1)) .1))
 
+-- one of them put anew without a byte
+from-empty : (rs : List Range) → ApartFrom (range 0 0) rs
+from-empty [] = tt
+from-empty (s ∷ rs) = ((λ k x y. omega arith), from-empty rs)
+
+apart-empty : (i : ℕ) (s : Range) (rs : List Range) → ApartFrom s rs → ApartFrom s (put i (range 0 0) rs)
+apart-empty i s [] p = tt
+apart-empty zero s (t ∷ rs) p = ((λ k x y. omega arith), p .1)
+apart-empty (suc i) s (t ∷ rs) p = (p .0, apart-empty i s rs (p .1))
+
+pub placed-empty : (n i : ℕ) (rs : List Range) → Placed n rs → Placed n (put i (range 0 0) rs)
+placed-empty n i [] p = (tt, tt)
+placed-empty n zero (s ∷ rs) p = ((omega arith, p .0 .1), (from-empty rs, p .1 .1))
+placed-empty n (suc i) (s ∷ rs) p = let q = placed-empty n i rs (p .0 .1, p .1 .1) in ((p .0 .0, q .0), (apart-empty i s rs (p .1 .0), q .1))
+
 -- a is a place, and r a range from there on, up to b
 module _ (a b : ℕ) (r : Range) (l : a ≤ b) (from : a ≤ r .place) (to : end r ≤ b) where
   apart-put : (i : ℕ) (s : Range) (rs : List Range) → end s ≤ a → ApartFrom s rs → ApartFrom s (put i r rs)

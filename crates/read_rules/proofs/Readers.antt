@@ -23,7 +23,7 @@ use Rattle.read_jp2h.specs.Child.{skipped, reader}
 use Rattle.read_file.specs.File.{ended, thenWalk}
 use Rattle.read_rules.proofs.Sames.{number-same}
 use Rattle.read_rules.proofs.Parts.{Lies, alike-first}
-use Rattle.read_rules.proofs.Changes.{Change, marked, typed, sized, deep, tinted, profiled, indexed, mapped, defined, Law}
+use Rattle.read_rules.proofs.Changes.{Change, marked, typed, sized, deep, tinted, cielab, profiled, indexed, mapped, defined, Law}
 use Rattle.read_rules.proofs.Local.{kept, set, Through, Moves, Reads, refuses}
 
 lab-count : (c : List ℕ) → ((lab c) .count ≡ 0 → ⊥) → ((lab c) .count ≡ 8 → ⊥) → (lab c) .count ≡ 9
@@ -84,11 +84,11 @@ module _ {f : List ℕ} {P : ℕ → Jp2 → Type 0} (law : Law f P) {X : Type 0
           λ _. (
             (λ _. no (omega arith) (omega arith)),
             λ _. (
-              (λ _. with (tinted _ (λ _. (omega arith, lab-count c))) refl),
+              (λ _. with (cielab _ (λ _. (omega arith, lab-count c))) refl),
               λ _. (
                 (λ _. with (tinted _ (λ t. (omega arith, t .1))) refl),
                 λ _.
-                    ((λ _. with (profiled _ (λ t. (omega arith, t .1)) three) refl), λ _. with (tinted _ (λ t. t)) refl),
+                    ((λ _. with (profiled _ (λ _. (omega arith, λ x y. absurd (x refl))) three) refl), λ _. with (tinted _ (λ t. t)) refl),
               ),
             ),
           ),

@@ -11,7 +11,7 @@ use Rattle.read_record.specs.declared.Jp2.{Jp2}
 use Rattle.read_record.specs.Record.{blank}
 use Rattle.read_rules.specs.Sound.{PaletteSound, MappingsSound, DefinitionsSound, RecordSound}
 use Rattle.read_rules.proofs.Parts.{Lies}
-use Rattle.read_rules.proofs.Changes.{Marked, Tinted, Change, marked, typed, sized, deep, tinted, profiled, indexed, mapped, defined, Law}
+use Rattle.read_rules.proofs.Changes.{Marked, Tinted, Change, marked, typed, sized, deep, tinted, cielab, profiled, indexed, mapped, defined, Law}
 use Rattle.read_rules.proofs.Definitions.{read-moves}
 use Rattle.read_rules.proofs.Again.{number-most, pclr-again, cmap-again, cdef-again}
 
@@ -32,6 +32,7 @@ module _ (f : List ℕ) (b : (i : ℕ) → getD f i 0 < 256) (start : ℕ) (c : 
   bounded-change m (sized i h) p = (h, p .1, p .2, (p .3 .0, omega arith))
   bounded-change m deep p = p
   bounded-change m (tinted k g) p = (p .0, g (p .1), p .2, p .3)
+  bounded-change m (cielab k g) p = (p .0, g (p .1), p .2, p .3)
   bounded-change m (profiled k g h) p = (p .0, g (p .1), p .2, p .3)
   bounded-change m (indexed z ne most npc room) p = (
     p .0,

@@ -119,14 +119,14 @@ module _ (r : Request) (fit : Fit r) where
       let same : colour.specified (colrContent (fieldsOf r) (r .profile)) (colour.EnumCS (colrContent (fieldsOf r) (r .profile))) (k .colour .lab) 1 ≡ painted r k = rw (f .0, f .1, f .2, n) refl in
       rw kind-colr (sym (row 4 _ (omega arith, (z, ((λ _. omega arith), ((λ _ x. s .1 (sym n ∙ x)), f .0 ∙ e)))) (ap (λ (x : Colour). accepted (withColour x k)) (sym same))))
 
-  pub colr-two : (at : ℕ) (k : Jp2) → fieldsOf r .meth ≡ 2 → fieldsOf r .enumcs ≡ 0 → k .colour .held ≡ 0 → k .colour .enumcs ≡ 0
+  pub colr-two : (at : ℕ) (k : Jp2) → fieldsOf r .meth ≡ 2 → fieldsOf r .enumcs ≡ 0 → k .colour .held ≡ 0 → k .colour .enumcs ≡ 0 → k .colour .lab ≡ colour.noLab
       → child (boxAt COLR at (colrContent (fieldsOf r) (r .profile))) k ≡ accepted (withIcc (span (at + 8 + 3) (length (r .profile))) (withColour (painted r k) k))
   unfolding colour.colr
-  colr-two at k e n z q =
+  colr-two at k e n z q b =
       let f = fields-are (omega arith) in
       let l : length (colrContent (fieldsOf r) (r .profile)) ≡ 3 + length (r .profile) = rw (length-colrContent (fieldsOf r) (r .profile), spec-two e) refl in
       let d : length (colrContent (fieldsOf r) (r .profile)) - 3 ≡ length (r .profile) = omega arith in
-      let same : colour.specified (colrContent (fieldsOf r) (r .profile)) (k .colour .enumcs) (k .colour .lab) 1 ≡ painted r k = rw (f .0, f .1, f .2, q, n) refl in
+      let same : colour.specified (colrContent (fieldsOf r) (r .profile)) (k .colour .enumcs) colour.noLab 1 ≡ painted r k = rw (f .0, f .1, f .2, q, n, b) refl in
       let other : colour.METH (colrContent (fieldsOf r) (r .profile)) ≡ 1 → ⊥ = λ x. omega (arith, f .0) in
       rw kind-colr (sym (row 5 _ (omega arith, (z, ((λ x. absurd (other x)), ((λ x. absurd (other x)), (other, f .0 ∙ e))))) (rw (d, same) refl)))
 

@@ -136,7 +136,7 @@ module _ (r : Request) (fit : Fit r) where
         let step : (m : Jp2) → _ → Reads n (colrAt r) (colr (fieldsOf r) (r .profile)) rest (afterBpcc r) m = λ m e. child-box COLR (colrContent (fieldsOf r) (r .profile)) rest (omega arith) (omega arith) n (colrAt r) (afterBpcc r) m h e in
         meth-cases r
         (λ e z. rw (icc-none r e) (step _ (colr-one r fit (colrAt r) (afterBpcc r) e refl)))
-        (λ e z. rw (icc-some r e) (step _ (colr-two r fit (colrAt r) (afterBpcc r) e z refl refl)))
+        (λ e z. rw (icc-some r e) (step _ (colr-two r fit (colrAt r) (afterBpcc r) e z refl refl refl)))
 
     cdef-step : length (cdef (r .components) (fieldsOf r) ++ rest) ≤ n → Reads n (cdefAt r) (cdef (r .components) (fieldsOf r)) rest (afterColr r) (afterCdef r)
     cdef-step h =

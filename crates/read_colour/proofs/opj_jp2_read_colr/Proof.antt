@@ -68,8 +68,8 @@ returns-5 : tie.Need-returns-5
 unfolding colr
 returns-5 c = success _ _ _ (c .done3 .ensures) (row 4 _ (omega arith) (cc))
 
-add-t15 : tie.Need-add-t15
-add-t15 c = search needs
+add-t18 : tie.Need-add-t18
+add-t18 c = search needs
 
 done-requires-4 : tie.Need-done-requires-4
 done-requires-4 c κs = tt
@@ -107,7 +107,7 @@ opj-jp2-read-colr-spec =
     returns-4
     done-requires-3
     returns-5
-    add-t15
+    add-t18
     done-requires-4
     returns-6
     done-requires-5
