@@ -47,6 +47,28 @@ header c =
 unfoldable pub childHeader : List ℕ → ReadHeader
 childHeader c = table (length c <? 8 ⇒ header c ∣ LBox c =? 0 ⇒ LengthZero ∣ otherwise (header c))
 
+-- what an answer means to a walk through boxes: a box to look at, the end of the boxes, or a refusal by one of document 01's numbers
+pub data HeaderMeaning : Type 0 where
+  goesOn : Jp2BoxHeader → HeaderMeaning
+  ends : HeaderMeaning
+  refuses : ℕ → HeaderMeaning
+
+-- inside jp2h: its boxes end where no bytes are left; a header that is cut, has a high word or has length 0 is refused with 10
+abbrev pub inJp2h : ReadHeader → HeaderMeaning
+inJp2h (Header h) = goesOn h
+inJp2h NoBytes = ends
+inJp2h Cut = refuses 10
+inJp2h HighWord = refuses 10
+inJp2h LengthZero = refuses 10
+
+-- in the file: a header that is missing ends the walk and is no refusal. LengthZero is no answer of `header`, since there length 0 means to the end of the file
+abbrev pub inFile : ReadHeader → HeaderMeaning
+inFile (Header h) = goesOn h
+inFile NoBytes = ends
+inFile Cut = ends
+inFile HighWord = ends
+inFile LengthZero = ends
+
 -- the header of a box without content
 abbrev pub newHeader : Jp2BoxType → Jp2BoxHeader
 newHeader k = record { length = 8; ty = k; «header_length» = 8 }

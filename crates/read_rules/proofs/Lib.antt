@@ -12,3 +12,4 @@ pub mod Lists
 pub mod Frees
 pub mod Again
 pub mod Sounds
+pub mod Headers

@@ -4,5 +4,7 @@ pub mod Apart
 pub mod Free
 pub mod Places
 pub mod Sound
+pub mod BoxByBox
 pub mod Files
 pub mod Cases
+pub mod Records
