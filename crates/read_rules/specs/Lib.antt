@@ -8,3 +8,4 @@ pub mod BoxByBox
 pub mod Files
 pub mod Cases
 pub mod Records
+pub mod Fields

@@ -1,6 +1,6 @@
 -- Small files and the whole reading of each: the answer, and every number of the record. Computed from the definitions. Bytes, kinds and expected numbers are written out, so that no row takes one from a definition.
 -- A file of `file` has its jp2h at 32, the content of jp2h at 40, the child after the ihdr at 62 and that child's content at 70.
-use Prim.Native.Nat.{ℕ, _+_}
+use Prim.Native.Nat.{ℕ}
 use mathlib.Core.Path.{_≡_, refl}
 use mathlib.Core.List.{List, [], _∷_, _++_}
 use lib.ListN.{replicate}
@@ -104,7 +104,7 @@ greyBox = colrBox (1 ∷ 0 ∷ 0 ∷ 0 ∷ 0 ∷ 0 ∷ 17 ∷ [])
 abbrev pub file : List ℕ → List ℕ
 file boxes = start ++ jp2hBox boxes ++ jp2cBox
 
--- the parts of a record
+-- the parts of a record. Of lists there are compatibility list, depths, profile, palette, mappings and definitions: `span` has place and count, `palette` place, entries and columns. `status` has state, image state, has_jp2h and has_ihdr
 abbrev pub image : ℕ → ℕ → ℕ → ℕ → ℕ → ℕ → ℕ → Image
 image h w numcomps bpc c unkc ipr = record { h = h; w = w; numcomps = numcomps; bpc = bpc; c = c; unkc = unkc; ipr = ipr }
 
@@ -160,9 +160,15 @@ unlisted = listed none none noPalette none none
 abbrev pub reached : Status
 reached = status 15 0 1 1
 
--- a record with everything known, and its status
+-- a record with everything known
+abbrev pub large : Image
+large = image 31 32 3 34 35 36 37
+
+abbrev pub known : Image → FileType → Lists → Status → Jp2
+known i t l s = jp2 i (colour 2 41 42 43 (labOf 1 2 3 4 5 6 7 8 9 9) 1) t l s
+
 abbrev pub fullWith : Status → Jp2
-fullWith s = jp2 (image 31 32 3 34 35 36 37) (colour 2 41 42 43 (labOf 1 2 3 4 5 6 7 8 9 9) 1) (typed 51 52) (lists (span 61 62) (span 63 64) (span 65 66) (palette 67 68 69) (span 70 71) (span 72 73)) s
+fullWith s = known large (typed 51 52) (lists (span 61 62) (span 63 64) (span 65 66) (palette 67 68 69) (span 70 71) (span 72 73)) s
 
 -- a table of files, the record before each, and the answer with the record after it
 infixr 20 _from_gives_with_∣_
@@ -205,6 +211,19 @@ readFiles =
     file (one ++ colrBox (3 ∷ 1 ∷ 2 ∷ four 14)) from noRecord gives Codestream 85 with jp2 small (colour 3 1 2 0 noLab 0) jp2Type unlisted reached ∣
     file (one ++ colrBox (255 ∷ 1 ∷ 2 ∷ [])) from noRecord gives Codestream 81 with jp2 small (colour 255 1 2 0 noLab 0) jp2Type unlisted reached ∣
     file (one ++ colrBox (3 ∷ 1 ∷ 2 ∷ []) ++ greyBox) from noRecord gives Codestream 96 with jp2 small grey jp2Type unlisted reached ∣
+    -- each box changes its own part, and no other
+    signed from fullWith (status 0 5 6 7) gives Ended with fullWith (status 1 5 6 7) ∣
+    ftypBox (four 1 ++ four 2 ++ four 3) from fullWith (status 1 5 6 7) gives Ended with
+    known large (typed 1 2) (lists (span 16 1) (span 63 64) (span 65 66) (palette 67 68 69) (span 70 71) (span 72 73)) (status 3 5 6 7) ∣
+    one from known noImage (typed 51 52) noLists (status 4 5 6 7) gives Ended with known small (typed 51 52) noLists (status 4 5 6 1) ∣
+    bpccBox (1 ∷ 2 ∷ 3 ∷ []) from fullWith (status 4 5 6 7) gives Ended with
+    known large (typed 51 52) (lists (span 61 62) (span 8 3) (span 65 66) (palette 67 68 69) (span 70 71) (span 72 73)) (status 4 5 6 7) ∣
+    pclrBox (two 1 ++ 2 ∷ 7 ∷ 7 ∷ 1 ∷ 1 ∷ []) from known large (typed 51 52) (lists (span 61 62) (span 63 64) (span 65 66) noPalette (span 70 71) (span 72 73)) (status 4 5 6 7) gives Ended with
+    known large (typed 51 52) (lists (span 61 62) (span 63 64) (span 65 66) (palette 11 1 2) (span 70 71) (span 72 73)) (status 4 5 6 7) ∣
+    cmapBox (replicate 8 0) from known large (typed 51 52) (lists (span 61 62) (span 63 64) (span 65 66) (palette 67 68 2) none (span 72 73)) (status 4 5 6 7) gives Ended with
+    known large (typed 51 52) (lists (span 61 62) (span 63 64) (span 65 66) (palette 67 68 2) (span 8 2) (span 72 73)) (status 4 5 6 7) ∣
+    cdefBox (two 1 ++ replicate 6 0) from known large (typed 51 52) (lists (span 61 62) (span 63 64) (span 65 66) (palette 67 68 69) (span 70 71) none) (status 4 5 6 7) gives Ended with
+    known large (typed 51 52) (lists (span 61 62) (span 63 64) (span 65 66) (palette 67 68 69) (span 70 71) (span 10 1)) (status 4 5 6 7) ∣
     -- palette (two rows of 1, 2 and 1 bytes), mappings and definitions, the last two with a byte to spare; inside jp2h and behind it
     file (one ++ pclrBox (two 2 ++ 3 ∷ 7 ∷ 15 ∷ 0x87 ∷ replicate 8 1) ++ cmapBox (replicate 13 0) ++ cdefBox (two 2 ++ replicate 13 0)) from noRecord gives Codestream 136 with
     jp2 small noColour jp2Type (listed none none (palette 73 2 3) (span 92 3) (span 115 2)) reached ∣
@@ -262,6 +281,7 @@ refusedFiles =
     four 13 ++ four 0x6a502020 ++ four 0x0d0a870a from noRecord gives Refused 4 0 with noRecord ∣
     signed ++ four 17 ++ four 0x66747970 ++ four 1 ++ four 2 from noRecord gives Refused 4 12 with noRecord ∣
     start ++ four 31 ++ four 0x6a703268 ++ one from noRecord gives Refused 4 32 with noRecord ∣
+    four 9 ++ four 0x6a703268 from noRecord gives Refused 4 0 with noRecord ∣
     four 9 ++ four 0x69686472 from noRecord gives Refused 4 0 with noRecord ∣
     four 9 ++ four 0x62706363 from noRecord gives Refused 4 0 with noRecord ∣
     four 9 ++ four 0x636f6c72 from noRecord gives Refused 4 0 with noRecord ∣
@@ -286,6 +306,7 @@ refusedFiles =
     signed ++ ftypBox (four 1 ++ four 2 ++ 0 ∷ 0 ∷ []) from noRecord gives Refused 8 12 with noRecord ∣
     -- 9: jp2h before the file type
     signed ++ jp2hBox one from noRecord gives Refused 9 12 with noRecord ∣
+    signed ++ jp2hBox (0 ∷ []) from noRecord gives Refused 9 12 with noRecord ∣
     jp2hBox one from fullWith (status 2147483645 5 6 7) gives Refused 9 0 with fullWith (status 2147483645 5 6 7) ∣
     -- 10: a child's header is cut by jp2h's end, its length is 0, or it has a high word
     file (one ++ 0 ∷ 0 ∷ 0 ∷ 8 ∷ 0x66 ∷ 0x72 ∷ 0x65 ∷ []) from noRecord gives Refused 10 62 with noRecord ∣
@@ -299,9 +320,11 @@ refusedFiles =
     file (one ++ four 9 ++ four 0x66726565) from noRecord gives Refused 11 62 with noRecord ∣
     -- 12: jp2h has no ihdr of its own
     file [] from noRecord gives Refused 12 32 with noRecord ∣
+    file (0 ∷ []) from noRecord gives Refused 10 40 with noRecord ∣
     file (greyBox ++ freeBox) from noRecord gives Refused 12 32 with noRecord ∣
     start ++ jp2hBox one ++ jp2hBox greyBox from noRecord gives Refused 12 62 with noRecord ∣
     -- 13: ihdr is not of 14 bytes
+    file (ihdrBox []) from noRecord gives Refused 13 40 with noRecord ∣
     file (ihdrBox (replicate 13 1)) from noRecord gives Refused 13 40 with noRecord ∣
     file (freeBox ++ ihdrBox (replicate 15 1)) from noRecord gives Refused 13 48 with noRecord ∣
     -- 14, 15: zero height, width or count; a count over 16384
@@ -327,6 +350,7 @@ refusedFiles =
     file (one ++ pclrBox (two 2 ++ 3 ∷ 7 ∷ 15 ∷ 0x87 ∷ replicate 7 1)) from noRecord gives Refused 20 62 with noRecord ∣
     -- 21, 18, 22: cmap
     file (one ++ cmapBox []) from noRecord gives Refused 21 62 with noRecord ∣
+    cmapBox [] from known large (typed 51 52) (lists none none none noPalette (span 70 71) none) (status 4 5 6 7) gives Refused 21 0 with known large (typed 51 52) (lists none none none noPalette (span 70 71) none) (status 4 5 6 7) ∣
     cmapBox [] from fullWith (status 7 5 6 7) gives Refused 18 0 with fullWith (status 7 5 6 7) ∣
     file (one ++ pclrBox (two 1 ++ 2 ∷ 7 ∷ 7 ∷ 1 ∷ 1 ∷ []) ++ cmapBox (replicate 7 0)) from noRecord gives Refused 22 77 with noRecord ∣
     -- 18, 23, 24, 23: cdef
