@@ -6,6 +6,5 @@ pub mod Places
 pub mod Sound
 pub mod BoxByBox
 pub mod Files
-pub mod Cases
 pub mod Records
 pub mod Fields
