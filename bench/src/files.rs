@@ -44,6 +44,13 @@ pub fn pclr(columns: u8) -> Vec<u8> {
     plain(PCLR, &content.collect::<Vec<_>>())
 }
 
+/// One entry, and as many columns of 8 bits.
+pub fn pclr_of_one(columns: u8) -> Vec<u8> {
+    let widths = vec![7; columns.into()];
+    let entries = (0..columns).collect();
+    plain(PCLR, &[vec![0, 1, columns], widths, entries].concat())
+}
+
 /// A mapping, as a file has it.
 pub type Mapping = [u8; 4];
 

@@ -1,6 +1,6 @@
 //! The pictures that are finished.
 
-use crate::files::{cdef, cmap, colr, direct, file, ihdr, looked_up, pclr};
+use crate::files::{cdef, cmap, colr, direct, file, ihdr, looked_up, pclr, pclr_of_one};
 use crate::finishing::Picture;
 use oracle::{Component, Props, NO_DATA};
 
@@ -68,6 +68,23 @@ pub fn mixed(width: u32, height: u32) -> Picture {
         samples(2 * area),
         4,
         4 * area,
+    )
+}
+
+/// One sample, looked up in each of many columns.
+pub fn many_columns(columns: u8) -> Picture {
+    let mappings: Vec<_> = (0..columns).map(looked_up).collect();
+    Picture::new(
+        file(&[
+            ihdr(1, 1, 1),
+            colr(),
+            pclr_of_one(columns),
+            cmap(&mappings),
+        ]),
+        vec![component(1, 1, 0)],
+        samples(1),
+        columns.into(),
+        columns.into(),
     )
 }
 

@@ -3,7 +3,7 @@
 use crate::clock::{seconds, seconds_of_one};
 use crate::files::reversed;
 use crate::finishing::{Lists, Picture};
-use crate::inputs::{many, mixed, three_planes, with_palette, without_samples};
+use crate::inputs::{many, many_columns, mixed, three_planes, with_palette, without_samples};
 use crate::memory::{always_fresh, used_again};
 use crate::table::{Case, Table};
 use crate::Disagreement;
@@ -17,15 +17,19 @@ pub fn time(table: &mut Table) -> Result<(), Disagreement> {
     time_sizes(table, Buffers::Fresh)?;
     used_again();
     time_sizes(table, Buffers::Touched)?;
-    for (channels, calls) in [(4, 1000), (256, 50), (16384, 1)] {
+    for (columns, calls) in [(32, 200), (64, 100), (128, 50), (255, 50)] {
+        let name = format!("palette of 1 by {columns}, 1x1");
+        time_records(table, &name, &many_columns(columns), calls)?;
+    }
+    for (channels, calls) in [(4, 1000), (64, 200), (256, 50), (16384, 1)] {
         let name = format!("reorder, {channels} channels");
         let picture = without_samples(channels, &reversed(channels));
-        time_order(table, &name, &picture, calls)?;
+        time_records(table, &name, &picture, calls)?;
     }
     for channels in [4, 256, 16384] {
         let name = format!("reorder, {channels} channels, 65535 definitions");
         let picture = without_samples(channels, &many(channels));
-        time_order(table, &name, &picture, 1)?;
+        time_records(table, &name, &picture, 1)?;
     }
     Ok(())
 }
@@ -88,7 +92,7 @@ fn time_samples(
 }
 
 /// The copy is one of the finished records.
-fn time_order(
+fn time_records(
     table: &mut Table,
     name: &str,
     picture: &Picture,

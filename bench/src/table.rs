@@ -141,7 +141,7 @@ const ORIGIN: &str = match option_env!("OPENJPEG_ORIGIN") {
     None => "left out, bench/build-openjpeg has said why",
 };
 
-const NOTES: [&str; 22] = [
+const NOTES: [&str; 23] = [
     "Buffers: hot, all in the cache from the run before; touched, the memory of what is written was written before",
     "the time began; fresh, it is new memory that is first written while the time runs. The files and samples handed",
     "in were written before in every case.",
@@ -159,7 +159,8 @@ const NOTES: [&str; 22] = [
     "OpenJPEG's and the crate's codestream part is a stand-in that does nothing. What has to be let go again is let go",
     "within the time, but for pictures.",
     "Copy is a plain copy (memcpy) of the bytes of the file that is read, of the finished samples to the destination",
-    "that ours writes to, of the finished records where there are no samples (reorder), or of the written bytes.",
+    "that ours writes to, of the finished records where the planes have no samples or one (reorder, palette of 1), or of",
+    "the written bytes.",
     "All take turns, forth and back, so that ours and copy each have rounds right after their own.",
     "Before a case is timed all answers are compared.",
     "A dash stands for what was not there to be timed.",

@@ -3,7 +3,7 @@ ghost use mathlib.Core.Path.{_≡_};
 ghost use Prim.Native.Nat.{_+_, _*_, _≤_, _<_};
 ghost use lib.ListN.{length};
 ghost use Rattle.picture_order.specs.Flat.{reordered, answered, afterwards};
-ghost use Rattle.picture_order.specs.Private.Steps.{Exchanged, Positioned, Stepped, listOf, markIf};
+ghost use Rattle.picture_order.specs.Private.Steps.{Exchanged, Positioned, Runnable, Stepped, listOf, markIf};
 use crate::task::Run;
 use read_record::Answer;
 use read_record::COMPONENT_NUMBERS;
@@ -15,6 +15,11 @@ mod task;
 
 // The index of the mark in a record.
 const ALPHA: usize = 12;
+
+// The places in the lists of a run: for few channels, and for the most that a picture can have.
+const FEW: usize = 64;
+
+const MOST: usize = 16384;
 
 // Exchanges the records p and q.
 fn swap_records(recs: &mut [u32], p: usize, q: usize)
@@ -58,20 +63,38 @@ fn step(recs: &mut [u32], positions: &mut [u32], channels: &mut [u32], f: &[u8],
     mark_if(recs, d.i, d.t, d.on);
 }
 
-// Applies the definitions of a run, in their order.
-fn reorder(f: &[u8], run: Run, recs: &mut [u32])
-    requires { ⌜ (0 < run .n) × (run .n ≤ 16384) × (13 * run .n ≤ length (now recs)) × (run .place + 6 * run .count ≤ length (now f)) ⌝ }
+// Applies the definitions of a run, in their order. The two lists have a place for each channel, whatever they hold before.
+fn reorder(f: &[u8], run: Run, recs: &mut [u32], positions: &mut [u32], channels: &mut [u32])
+    requires { ⌜ Runnable (now f) run (length (now recs)) × (run .n ≤ length (now positions)) × (run .n ≤ length (now channels)) ⌝ }
     ensures { λ _. ⌜ now (recs .exit) ≡ reordered (now (f .entry)) (listOf run) (run .n) (now (recs .entry)) ⌝ }
 {
-    let mut positions = [0u32; 16384];
-    let mut channels = [0u32; 16384];
-    positions::begin(&mut positions, run.n);
-    positions::begin(&mut channels, run.n);
+    positions::begin(positions, run.n);
+    positions::begin(channels, run.n);
     let mut k: usize = 0;
     while k < run.count {
-        step(recs, &mut positions, &mut channels, f, run, k);
+        step(recs, positions, channels, f, run, k);
         k += 1;
     }
+}
+
+// The same, with lists for the few channels that nearly all pictures have: clearing long ones would take most of the time.
+fn reorder_few(f: &[u8], run: Run, recs: &mut [u32])
+    requires { ⌜ Runnable (now f) run (length (now recs)) × (run .n ≤ 64) ⌝ }
+    ensures { λ _. ⌜ now (recs .exit) ≡ reordered (now (f .entry)) (listOf run) (run .n) (now (recs .entry)) ⌝ }
+{
+    let mut positions = [0u32; FEW];
+    let mut channels = [0u32; FEW];
+    reorder(f, run, recs, &mut positions, &mut channels);
+}
+
+// The same, with lists for as many channels as a picture can have.
+fn reorder_many(f: &[u8], run: Run, recs: &mut [u32])
+    requires { ⌜ Runnable (now f) run (length (now recs)) ⌝ }
+    ensures { λ _. ⌜ now (recs .exit) ≡ reordered (now (f .entry)) (listOf run) (run .n) (now (recs .entry)) ⌝ }
+{
+    let mut positions = [0u32; MOST];
+    let mut channels = [0u32; MOST];
+    reorder(f, run, recs, &mut positions, &mut channels);
 }
 
 // Puts the first n records of recs into the order of the definition list cdef of the file f.
@@ -82,6 +105,10 @@ pub fn opj_jp2_apply_cdef(f: &[u8], cdef: Span, recs: &mut [u32], n: u32) -> Ans
     if t.run.count == 0 {
         return t.answer;
     }
-    reorder(f, t.run, recs);
+    if t.run.n <= FEW {
+        reorder_few(f, t.run, recs);
+        return t.answer;
+    }
+    reorder_many(f, t.run, recs);
     t.answer
 }

@@ -11,22 +11,46 @@ check-requires c κs = tt
 
 returns : tie.Need-returns
 returns c =
-    let b = c .before .before .before .before .before in
-    idles (b .args .f .now) (b .args .cdef) (b .args .n) (b .args .recs .now) _ (tasked (b .args .f .now) (b .args .cdef) _ (b .args .n) (c .before .before .check .ensures)) (c .if1 .taken)
+    let a = c .before .before .before .before .before .args in
+    idles (a .f .now) (a .cdef) (a .n) (a .recs .now) _ (tasked (a .f .now) (a .cdef) _ (a .n) (c .before .before .check .ensures)) (c .if1 .taken)
 
-reorder-requires : tie.Need-reorder-requires
-reorder-requires c κs =
-    let b = c .before .before .before .before .before .before in
-    let t = (tasked (b .args .f .now) (b .args .cdef) _ (b .args .n) (c .before .before .before .check .ensures)) in
-    (t .needed (omega arith), t .few, omega (arith, t .within), t .in-file)
+reorder-few-requires : tie.Need-reorder-few-requires
+reorder-few-requires c κs =
+    let a = c .before .before .before .before .before .before .before .before .args in
+    let t = tasked (a .f .now) (a .cdef) _ (a .n) (c .before .before .before .before .before .check .ensures) in
+    ((t .needed (omega arith), t .few, omega (arith, t .within), t .in-file), omega arith)
 
 same-length : tie.Need-same-length
 same-length c = search needs
 
 returns-2 : tie.Need-returns-2
 returns-2 c =
-    let b = c .before .before .before .before .before .before .before .before .before in
-    runs (b .args .f .now) (b .args .cdef) (b .args .n) (b .args .recs .now) _ (tasked (b .args .f .now) (b .args .cdef) _ (b .args .n) (c .before .before .before .before .before .before .check .ensures)) _ (c .before .before .reorder .ensures)
+    let a = c .before .before .before .before .before .before .before .before .before .before .before .args in
+    runs (a .f .now) (a .cdef) (a .n) (a .recs .now) _ (tasked (a .f .now) (a .cdef) _ (a .n) (c .before .before .before .before .before .before .before .before .check .ensures)) _ (c .before .before .reorder-few .ensures)
+
+reorder-many-requires : tie.Need-reorder-many-requires
+reorder-many-requires c κs =
+    let a = c .before .before .before .before .before .before .before .before .args in
+    let t = tasked (a .f .now) (a .cdef) _ (a .n) (c .before .before .before .before .before .check .ensures) in
+    (t .needed (omega arith), t .few, omega (arith, t .within), t .in-file)
+
+same-length-2 : tie.Need-same-length-2
+same-length-2 c = search needs
+
+returns-3 : tie.Need-returns-3
+returns-3 c =
+    let a = c .before .before .before .before .before .before .before .before .before .before .before .args in
+    runs (a .f .now) (a .cdef) (a .n) (a .recs .now) _ (tasked (a .f .now) (a .cdef) _ (a .n) (c .before .before .before .before .before .before .before .before .check .ensures)) _ (c .before .before .reorder-many .ensures)
 
 pub opj-jp2-apply-cdef-spec : {M : Type 1} → statement M
-opj-jp2-apply-cdef-spec = tie.close (tie.spec check-requires returns reorder-requires same-length returns-2)
+opj-jp2-apply-cdef-spec =
+    tie.close
+    (tie.spec
+    check-requires
+    returns
+    reorder-few-requires
+    same-length
+    returns-2
+    reorder-many-requires
+    same-length-2
+    returns-3)

@@ -16,20 +16,14 @@ use Rattle.picture_order.proofs.reorder.Tie as tie
 
 abbrev Inv-loop : tie.InvT-loop
 Inv-loop f run recs₀ positions₀ channels₀ k₀ recs positions channels k =
-    (k ≤ run .count) × (length recs ≡ length recs₀) × (length positions ≡ 16384) × (length channels ≡ 16384) × Positioned (run .n) positions channels
+    (k ≤ run .count) × (length recs ≡ length recs₀) × (length positions ≡ length positions₀) × (length channels ≡ length channels₀) × Positioned (run .n) positions channels
     × Agree (run .n) recs positions (arranged (run .n) (definitionsTo f (listOf run) k) (numberAt recs₀))
 
 abbrev μ-loop : tie.MeasureT-loop
 μ-loop f run recs₀ positions₀ channels₀ k₀ recs positions channels k = run .count - k
 
-slice-aggregate-begin : tie.Need-slice-aggregate-begin Inv-loop μ-loop
-slice-aggregate-begin c = search needs
-
 begin-requires : tie.Need-begin-requires Inv-loop μ-loop
 begin-requires c κs = search needs
-
-slice-aggregate-begin-2 : tie.Need-slice-aggregate-begin-2 Inv-loop μ-loop
-slice-aggregate-begin-2 c = search needs
 
 begin-requires-2 : tie.Need-begin-requires-2 Inv-loop μ-loop
 begin-requires-2 c κs = search needs
@@ -37,27 +31,22 @@ begin-requires-2 c κs = search needs
 loop-holds : tie.Need-loop-holds Inv-loop μ-loop
 unfolding definitionsTo runOf
 loop-holds c =
-    let s = c .before .before .before .before .begin in
-    let h = c .before .begin2 in (
+    let b = c .before .before .before .before .before .before .before .before .before .before .before .before in
+    let s = c .before .before .before .before .before .before .begin in
+    let h = c .before .before .begin2 in (
       omega arith,
       refl,
-      s .kept .0,
-      h .kept .0,
-      positioned-start _ _ _ (omega arith) (omega (arith, s .kept .0)) (omega (arith, h .kept .0)) (s .ensures) (h .ensures),
+      refl,
+      refl,
+      positioned-start _ _ _ (b .pre .0 .1) (omega (arith, s .kept .0, b .pre .1)) (omega (arith, h .kept .0, b .pre .2)) (s .ensures) (h .ensures),
       agree-start _ _ _ (s .ensures),
     )
 
-slice-aggregate-step : tie.Need-slice-aggregate-step Inv-loop μ-loop
-slice-aggregate-step c = search needs
-
-slice-aggregate-step-2 : tie.Need-slice-aggregate-step-2 Inv-loop μ-loop
-slice-aggregate-step-2 c = search needs
-
 step-requires : tie.Need-step-requires Inv-loop μ-loop
 step-requires c κs =
-    let b = c .before .before .before .before .before .before .before .before .before .before .before .before .before .before in
+    let b = c .before .before .before .before .before .before .before .before .before .before .before .before .before .before .before .before .before .before in
     let l = c .before .before .before .before .before .loop in
-    ((b .pre .0, l .inv .4, omega arith), omega (arith, l .inv .1))
+    ((b .pre .0 .0, l .inv .4, omega (arith, b .pre .0 .3)), omega (arith, l .inv .1, b .pre .0 .2))
 
 add-k : tie.Need-add-k Inv-loop μ-loop
 add-k c = search needs
@@ -67,27 +56,34 @@ loop-less c = search needs
 
 loop-again : tie.Need-loop-again Inv-loop μ-loop
 loop-again c =
-    let b = c .before .before .before .before .before .before .before .before .before .before .before .before .before .before .before .before .before .before .before in
-    let l = c .before .before .before .before .before .before .before .before .before .before .loop in
-    let d = c .before .before .before .before .step in (
+    let a = c .before .before .before .before .before .before .before .before .before .before .before .before .before .before .before .before .before .before .before .before .before .before .before .before .before .args in
+    let l = c .before .before .before .before .before .before .before .before .before .before .before .before .loop in
+    let d = c .before .before .before .before .before .before .step in (
       omega arith,
       d .kept .0 ∙ l .inv .1,
       d .kept .1 .0 ∙ l .inv .2,
       d .kept .1 .1 .0 ∙ l .inv .3,
       d .ensures .positioned,
-      agree-more (b .args .f .now) (listOf (b .args .run)) (b .args .run .n) (l .k) (numberAt (b .args .recs .now)) _ _ (d .ensures .does _ (l .inv .5)),
+      agree-more (a .f .now) (listOf (a .run)) (a .run .n) (l .k) (numberAt (a .recs .now)) _ _ (d .ensures .does _ (l .inv .5)),
     )
 
 same-length : tie.Need-same-length Inv-loop μ-loop
-same-length c = search needs
+same-length c = c .before .before .loop .inv .1
+
+same-length-2 : tie.Need-same-length-2 Inv-loop μ-loop
+same-length-2 c = c .before .before .loop .inv .2 ∙ c .before .before .before .before .before .before .before .before .before .begin .kept .0
+
+same-length-3 : tie.Need-same-length-3 Inv-loop μ-loop
+same-length-3 c = c .before .before .loop .inv .3 ∙ c .before .before .before .before .before .begin2 .kept .0
 
 returns : tie.Need-returns Inv-loop μ-loop
 returns c =
-    let b = c .before .before .before .before .before .before .before .before .before .before .before in
+    let b = c .before .before .before .before .before .before .before .before .before .before .before .before .before .before .before in
+    let a = b .args in
     let l = c .before .before .loop in
-    let e : l .k ≡ b .args .run .count = omega arith in
-    whole (b .args .f .now) (listOf (b .args .run)) (b .args .run .n) (b .args .recs .now) (l .recs) (l .inv .1) (b .pre .2)
-    (subst (λ i. Agree (b .args .run .n) (l .recs) (l .positions) (arranged (b .args .run .n) (definitionsTo (b .args .f .now) (listOf (b .args .run)) i) (numberAt (b .args .recs .now)))) e (l .inv .5) .says)
+    let e : l .k ≡ a .run .count = omega arith in
+    whole (a .f .now) (listOf (a .run)) (a .run .n) (a .recs .now) (l .recs) (l .inv .1) (b .pre .0 .2)
+    (subst (λ i. Agree (a .run .n) (l .recs) (l .positions) (arranged (a .run .n) (definitionsTo (a .f .now) (listOf (a .run)) i) (numberAt (a .recs .now)))) e (l .inv .5) .says)
 
 pub reorder-spec : {M : Type 1} → statement M
 reorder-spec =
@@ -95,16 +91,14 @@ reorder-spec =
     (tie.spec
     Inv-loop
     μ-loop
-    slice-aggregate-begin
     begin-requires
-    slice-aggregate-begin-2
     begin-requires-2
     loop-holds
-    slice-aggregate-step
-    slice-aggregate-step-2
     step-requires
     add-k
     loop-less
     loop-again
     same-length
+    same-length-2
+    same-length-3
     returns)

@@ -45,6 +45,10 @@ pub record Agree (n : ℕ) (recs positions : List ℕ) (a : Arranged) : Type 0 w
 abbrev pub listOf : Run → Span
 listOf run = record { place = run .place; count = run .count }
 
+-- a run can be made: its records lie in a list of the given length, and its definitions in f
+abbrev pub Runnable : List ℕ → Run → ℕ → Type 0
+Runnable f run room = (0 < run .n) × (run .n ≤ mostComponents) × (numbersEach * run .n ≤ room) × (run .place + 6 * run .count ≤ length f)
+
 -- m is l with d applied
 abbrev pub Does : ℕ → Def → List ℕ → List ℕ → List ℕ → List ℕ → Type 0
 Does n d l positions m positions′ = (a : Arranged) → Agree n l positions a → Agree n m positions′ (define n d a)
