@@ -6,7 +6,7 @@ use native.Mathlib.Numerals.{add-one}
 use native.Mathlib.Omega.{arith}
 use mathlib.Core.Path.{_≡_, refl, sym, _∙_}
 use mathlib.Core.List.{List}
-use lib.ListN.{length, getD, set, replicate}
+use lib.ListN.{length, getD, set, replicate, length-replicate}
 use lib.Seq.{getD-set-same, getD-set-other}
 use Rattle.box_number.specs.Table.{_=?_}
 use Rattle.box_number.proofs.Rows.{row, each}
@@ -14,15 +14,19 @@ use Rattle.read_record.specs.declared.Span.{Span}
 use Rattle.read_channels.specs.Cdef.{Cn}
 use Rattle.box_number.specs.Lowest.{lowest}
 use Rattle.picture_rules.specs.Check.{undefined}
-use Rattle.picture_check.specs.Private.Parts.{seenAfter, unmarked}
+use Rattle.picture_check.specs.Private.Parts.{seenAfter, unmarked, Markable, Named}
 use Rattle.box_number.proofs.Answers.{same}
 use Rattle.box_number.proofs.Indices.{lowest-most, lowest-same}
 
 -- before any is set
-pub unset : (n c : ℕ) → _≡_ {A = ℕ} (getD (replicate n 0) c 0) 0
+unset : (n c : ℕ) → _≡_ {A = ℕ} (getD (replicate n 0) c 0) 0
 unset zero c = refl
 unset (suc n) zero = refl
 unset (suc n) (suc c) = unset n c
+
+-- a list of enough places, none of them set
+pub markable : (f : List ℕ) (l : Span) (k m : ℕ) → Named f l k → k ≤ m → Markable f l (replicate m 0)
+markable f l k m p enough = record { inside = p .inside; within = λ j b. omega (arith, p .below j b, length-replicate {A = ℕ} m 0); blank = unset m }
 
 module _ (f : List ℕ) (l : Span) where
   pub mark-none : (c : ℕ) → 0 ≡ seenAfter f l 0 c

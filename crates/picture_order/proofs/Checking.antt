@@ -1,6 +1,6 @@
 -- What a checked task says, and what a run starts from.
 -- Assumes nothing.
-use Prim.Native.Nat.{ℕ, _+_, _*_, _/_, _≤_, _<_}
+use Prim.Native.Nat.{ℕ, _+_, _*_, _≤_, _<_}
 use mathlib.Core.Path.{_≡_, refl, sym, _∙_}
 use mathlib.Core.Bool.{true, false}
 use mathlib.Core.List.{List}
@@ -9,10 +9,11 @@ use native.Mathlib.Decide.{ℕ-discrete}
 use lib.ListN.{length, getD}
 use Rattle.box_number.proofs.Rows.{Says, row, each}
 use Rattle.read_record.specs.declared.Span.{Span}
+use Rattle.read_record.specs.declared.Answer.the-variants.{Done, Refused}
 use Rattle.picture_rules.specs.Flat.{flat}
 use Rattle.picture_order.specs.Flat.{reorderOutside, reordered, answered, afterwards}
 use Rattle.picture_order.specs.Comps.{numbered}
-use Rattle.picture_order.specs.Private.Steps.{listOf, Started}
+use Rattle.picture_order.specs.Private.Steps.{listOf, Runnable, Started}
 use Rattle.picture_order.specs.Private.Task.{astray, task, Tasked}
 use Rattle.picture_order.specs.declared.task.Task.{Task}
 use Rattle.picture_order.specs.declared.lent.Comp.{Comp}
@@ -21,7 +22,7 @@ use Rattle.picture_order.proofs.Fronts.{reordered-none}
 use Rattle.picture_order.proofs.Numbered.{numbered-length}
 
 -- of no records nothing changes
-no-records : (f : List ℕ) (cdef : Span) (n : ℕ) (l : List ℕ) → n ≡ 0 → reordered f cdef n l ≡ l
+pub no-records : (f : List ℕ) (cdef : Span) (n : ℕ) (l : List ℕ) → n ≡ 0 → reordered f cdef n l ≡ l
 unfolding reordered flat
 no-records f cdef n l e = rw e refl
 
@@ -74,13 +75,18 @@ module _ (f : List ℕ) (cdef : Span) (m n : ℕ) where
         ),
       ))
 
--- over a list of numbers: no definitions to run, and a run
-module _ (f : List ℕ) (cdef : Span) (n : ℕ) (l : List ℕ) (r : Task) (t : Tasked f cdef (length l / 13) n r) where
-  pub idles : r .run .count ≡ 0 → (r .answer ≡ answered f cdef n l) × (l ≡ afterwards f cdef n l)
-  idles e = (t .answers l (omega arith) (omega arith), reordered-none f (listOf (r .run)) (r .run .n) l e (omega (arith, t .within)) ∙ t .leaves l (omega arith) (omega arith))
+-- over a list of numbers: 29, and what is left to run where nothing is outside
+module _ (f : List ℕ) (cdef : Span) (n : ℕ) (l : List ℕ) where
+  pub refuses : Says true (reorderOutside f cdef n l) → (Refused 29 0 ≡ answered f cdef n l) × (l ≡ afterwards f cdef n l)
+  unfolding answered afterwards
+  refuses h = (row 0 _ h refl, row 0 _ h refl)
 
-  pub runs : (m : List ℕ) → m ≡ reordered f (listOf (r .run)) (r .run .n) l → (r .answer ≡ answered f cdef n l) × (m ≡ afterwards f cdef n l)
-  runs m e = (t .answers l (omega arith) (omega arith), e ∙ t .leaves l (omega arith) (omega arith))
+  pub passes : Says false (reorderOutside f cdef n l) → (m : List ℕ) → m ≡ reordered f cdef n l → (Done ≡ answered f cdef n l) × (m ≡ afterwards f cdef n l)
+  unfolding answered afterwards
+  passes h m e = (row 1 _ (h, tt) refl, row 1 _ (h, tt) e)
+
+  pub runnable : Says false (reorderOutside f cdef n l) → (n ≡ 0 → ⊥) → (cdef .count ≡ 0 → ⊥) → Runnable f (record { place = cdef .place; n = n; count = cdef .count }) (length l)
+  runnable h some defined = (omega (arith, some), h .0, h .1 .0, h .1 .1 defined .1)
 
 -- two lists of all indices are what a run starts from
 pub begins : (n : ℕ) (positions channels : List ℕ) → n ≤ 16384 → (length positions ≡ 16384) × ((i : ℕ) → i < 16384 → getD positions i 0 ≡ i) → (length channels ≡ 16384) × ((i : ℕ) → i < 16384 → getD channels i 0 ≡ i) → Started n positions channels

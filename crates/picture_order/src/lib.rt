@@ -4,6 +4,7 @@ ghost use Prim.Native.Nat.{_+_, _*_, _≤_, _<_};
 ghost use lib.ListN.{length};
 ghost use Rattle.picture_order.specs.Flat.{reordered, answered, afterwards};
 ghost use Rattle.picture_order.specs.Private.Steps.{Exchanged, Positioned, Runnable, Stepped, listOf, markIf};
+use crate::task::MOST_COMPONENTS;
 use crate::task::Run;
 use read_record::Answer;
 use read_record::COMPONENT_NUMBERS;
@@ -16,8 +17,10 @@ mod task;
 // The index of the mark in a record.
 const ALPHA: usize = 12;
 
-// The places in the lists of a run: for few channels, and for the most that a picture can have.
+// The places in the lists of a run: for few channels, for some, and for the most that a picture can have.
 const FEW: usize = 64;
+
+const SOME: usize = 1024;
 
 const MOST: usize = 16384;
 
@@ -77,7 +80,7 @@ fn reorder(f: &[u8], run: Run, recs: &mut [u32], positions: &mut [u32], channels
     }
 }
 
-// The same, with lists for the few channels that nearly all pictures have: clearing long ones would take most of the time.
+// The same with lists of its own, of three lengths: to clear the longest takes more time than all else in a picture of few channels.
 fn reorder_few(f: &[u8], run: Run, recs: &mut [u32])
     requires { ⌜ Runnable (now f) run (length (now recs)) × (run .n ≤ 64) ⌝ }
     ensures { λ _. ⌜ now (recs .exit) ≡ reordered (now (f .entry)) (listOf run) (run .n) (now (recs .entry)) ⌝ }
@@ -87,7 +90,15 @@ fn reorder_few(f: &[u8], run: Run, recs: &mut [u32])
     reorder(f, run, recs, &mut positions, &mut channels);
 }
 
-// The same, with lists for as many channels as a picture can have.
+fn reorder_some(f: &[u8], run: Run, recs: &mut [u32])
+    requires { ⌜ Runnable (now f) run (length (now recs)) × (run .n ≤ 1024) ⌝ }
+    ensures { λ _. ⌜ now (recs .exit) ≡ reordered (now (f .entry)) (listOf run) (run .n) (now (recs .entry)) ⌝ }
+{
+    let mut positions = [0u32; SOME];
+    let mut channels = [0u32; SOME];
+    reorder(f, run, recs, &mut positions, &mut channels);
+}
+
 fn reorder_many(f: &[u8], run: Run, recs: &mut [u32])
     requires { ⌜ Runnable (now f) run (length (now recs)) ⌝ }
     ensures { λ _. ⌜ now (recs .exit) ≡ reordered (now (f .entry)) (listOf run) (run .n) (now (recs .entry)) ⌝ }
@@ -98,17 +109,38 @@ fn reorder_many(f: &[u8], run: Run, recs: &mut [u32])
 }
 
 // Puts the first n records of recs into the order of the definition list cdef of the file f.
+// The tests and the choice of the lists are in one function: so the compiler takes the two longer runs for rare ones and keeps them out of it. Else their lists would take stack from every picture (docs/DECISIONS.md, 41).
 pub fn opj_jp2_apply_cdef(f: &[u8], cdef: Span, recs: &mut [u32], n: u32) -> Answer
     ensures { λ r. ⌜ (r ≡ answered (now (f .entry)) cdef n (now (recs .entry))) × (now (recs .exit) ≡ afterwards (now (f .entry)) cdef n (now (recs .entry))) ⌝ }
 {
-    let t = task::check(f, cdef, recs.len() / COMPONENT_NUMBERS, n);
-    if t.run.count == 0 {
-        return t.answer;
+    if MOST_COMPONENTS < n {
+        return Answer::Refused(29, 0);
     }
-    if t.run.n <= FEW {
-        reorder_few(f, t.run, recs);
-        return t.answer;
+    if recs.len() / COMPONENT_NUMBERS < n as usize {
+        return Answer::Refused(29, 0);
     }
-    reorder_many(f, t.run, recs);
-    t.answer
+    if read_channels::definitions_outside(f, cdef) {
+        return Answer::Refused(29, 0);
+    }
+    if n == 0 {
+        return Answer::Done;
+    }
+    if cdef.count == 0 {
+        return Answer::Done;
+    }
+    let run = Run {
+        place: cdef.place,
+        n: n as usize,
+        count: cdef.count,
+    };
+    if run.n <= FEW {
+        reorder_few(f, run, recs);
+        return Answer::Done;
+    }
+    if run.n <= SOME {
+        reorder_some(f, run, recs);
+        return Answer::Done;
+    }
+    reorder_many(f, run, recs);
+    Answer::Done
 }

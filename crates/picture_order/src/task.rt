@@ -5,7 +5,7 @@ use read_record::Answer;
 use read_record::Span;
 
 // The most components that a picture can have.
-const MOST_COMPONENTS: u32 = 16384;
+pub const MOST_COMPONENTS: u32 = 16384;
 
 // A run of the definitions of a list at a place of the file over the first n records.
 pub struct Run {

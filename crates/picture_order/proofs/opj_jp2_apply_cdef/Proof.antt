@@ -1,56 +1,103 @@
 -- `picture_order::opj_jp2_apply_cdef` meets its contract.
 -- Assumes nothing.
+use mathlib.Core.Path.{sym, _∙_}
+use mathlib.Core.Bool.{true, false}
 use native.Mathlib.Omega.{arith}
 use borrow.Author.Needs.{needs}
-use Rattle.picture_order.proofs.Checking.{tasked, idles, runs}
+use Rattle.box_number.proofs.Rows.{Says}
+use Rattle.box_number.proofs.Answers.{said}
+use Rattle.read_channels.specs.Definitions.{definitionsOutside}
+use Rattle.picture_order.specs.Flat.{reorderOutside}
+use Rattle.picture_order.proofs.Fronts.{reordered-none}
+use Rattle.picture_order.proofs.Checking.{no-records, refuses, passes, runnable}
 use Rattle.picture_order.proofs.opj_jp2_apply_cdef.Statement.{statement}
 use Rattle.picture_order.proofs.opj_jp2_apply_cdef.Tie as tie
 
-check-requires : tie.Need-check-requires
-check-requires c κs = tt
-
 returns : tie.Need-returns
-returns c =
-    let a = c .before .before .before .before .before .args in
-    idles (a .f .now) (a .cdef) (a .n) (a .recs .now) _ (tasked (a .f .now) (a .cdef) _ (a .n) (c .before .before .check .ensures)) (c .if1 .taken)
+returns c = let a = c .before .before .before .args in refuses (a .f .now) (a .cdef) (a .n) (a .recs .now) (λ x y. absurd (omega arith))
+
+returns-2 : tie.Need-returns-2
+returns-2 c = let a = c .before .before .before .before .args in refuses (a .f .now) (a .cdef) (a .n) (a .recs .now) (λ x y. absurd (omega arith))
+
+definitions-outside-requires : tie.Need-definitions-outside-requires
+definitions-outside-requires c κs = tt
+
+returns-3 : tie.Need-returns-3
+returns-3 c = let a = c .before .before .before .before .before .before .args in refuses (a .f .now) (a .cdef) (a .n) (a .recs .now) (λ x y. said true (definitionsOutside (a .f .now) (a .cdef)) (sym (c .if3 .taken) ∙ c .before .definitions-outside .ensures))
+
+returns-4 : tie.Need-returns-4
+returns-4 c =
+    let a = c .before .before .before .before .before .before .before .args in
+    let h : Says false (reorderOutside (a .f .now) (a .cdef) (a .n) (a .recs .now)) = (omega arith, (omega arith, said false (definitionsOutside (a .f .now) (a .cdef)) (sym (c .before .if3 .left) ∙ c .before .before .definitions-outside .ensures))) in
+    passes (a .f .now) (a .cdef) (a .n) (a .recs .now) h _ (sym (no-records (a .f .now) (a .cdef) (a .n) (a .recs .now) (omega arith)))
+
+returns-5 : tie.Need-returns-5
+returns-5 c =
+    let a = c .before .before .before .before .before .before .before .before .before .args in
+    let h : Says false (reorderOutside (a .f .now) (a .cdef) (a .n) (a .recs .now)) = (omega arith, (omega arith, said false (definitionsOutside (a .f .now) (a .cdef)) (sym (c .before .before .before .if3 .left) ∙ c .before .before .before .before .definitions-outside .ensures))) in
+    passes (a .f .now) (a .cdef) (a .n) (a .recs .now) h _ (reordered-none (a .f .now) (a .cdef) (a .n) (a .recs .now) (omega arith) (h .1 .0))
 
 reorder-few-requires : tie.Need-reorder-few-requires
 reorder-few-requires c κs =
-    let a = c .before .before .before .before .before .before .before .before .args in
-    let t = tasked (a .f .now) (a .cdef) _ (a .n) (c .before .before .before .before .before .check .ensures) in
-    ((t .needed (omega arith), t .few, omega (arith, t .within), t .in-file), omega arith)
+    let a = c .before .before .before .before .before .before .before .before .before .before .before .before .args in
+    let h : Says false (reorderOutside (a .f .now) (a .cdef) (a .n) (a .recs .now)) = (omega arith, (omega arith, said false (definitionsOutside (a .f .now) (a .cdef)) (sym (c .before .before .before .before .before .before .if3 .left) ∙ c .before .before .before .before .before .before .before .definitions-outside .ensures))) in
+    (runnable (a .f .now) (a .cdef) (a .n) (a .recs .now) h (omega arith) (omega arith), omega arith)
 
 same-length : tie.Need-same-length
 same-length c = search needs
 
-returns-2 : tie.Need-returns-2
-returns-2 c =
-    let a = c .before .before .before .before .before .before .before .before .before .before .before .args in
-    runs (a .f .now) (a .cdef) (a .n) (a .recs .now) _ (tasked (a .f .now) (a .cdef) _ (a .n) (c .before .before .before .before .before .before .before .before .check .ensures)) _ (c .before .before .reorder-few .ensures)
+returns-6 : tie.Need-returns-6
+returns-6 c =
+    let a = c .before .before .before .before .before .before .before .before .before .before .before .before .before .before .before .args in
+    let h : Says false (reorderOutside (a .f .now) (a .cdef) (a .n) (a .recs .now)) = (omega arith, (omega arith, said false (definitionsOutside (a .f .now) (a .cdef)) (sym (c .before .before .before .before .before .before .before .before .before .if3 .left) ∙ c .before .before .before .before .before .before .before .before .before .before .definitions-outside .ensures))) in
+    passes (a .f .now) (a .cdef) (a .n) (a .recs .now) h _ (c .before .before .reorder-few .ensures)
 
-reorder-many-requires : tie.Need-reorder-many-requires
-reorder-many-requires c κs =
-    let a = c .before .before .before .before .before .before .before .before .args in
-    let t = tasked (a .f .now) (a .cdef) _ (a .n) (c .before .before .before .before .before .check .ensures) in
-    (t .needed (omega arith), t .few, omega (arith, t .within), t .in-file)
+reorder-some-requires : tie.Need-reorder-some-requires
+reorder-some-requires c κs =
+    let a = c .before .before .before .before .before .before .before .before .before .before .before .before .before .before .args in
+    let h : Says false (reorderOutside (a .f .now) (a .cdef) (a .n) (a .recs .now)) = (omega arith, (omega arith, said false (definitionsOutside (a .f .now) (a .cdef)) (sym (c .before .before .before .before .before .before .before .before .if3 .left) ∙ c .before .before .before .before .before .before .before .before .before .definitions-outside .ensures))) in
+    (runnable (a .f .now) (a .cdef) (a .n) (a .recs .now) h (omega arith) (omega arith), omega arith)
 
 same-length-2 : tie.Need-same-length-2
 same-length-2 c = search needs
 
-returns-3 : tie.Need-returns-3
-returns-3 c =
-    let a = c .before .before .before .before .before .before .before .before .before .before .before .args in
-    runs (a .f .now) (a .cdef) (a .n) (a .recs .now) _ (tasked (a .f .now) (a .cdef) _ (a .n) (c .before .before .before .before .before .before .before .before .check .ensures)) _ (c .before .before .reorder-many .ensures)
+returns-7 : tie.Need-returns-7
+returns-7 c =
+    let a = c .before .before .before .before .before .before .before .before .before .before .before .before .before .before .before .before .before .args in
+    let h : Says false (reorderOutside (a .f .now) (a .cdef) (a .n) (a .recs .now)) = (omega arith, (omega arith, said false (definitionsOutside (a .f .now) (a .cdef)) (sym (c .before .before .before .before .before .before .before .before .before .before .before .if3 .left) ∙ c .before .before .before .before .before .before .before .before .before .before .before .before .definitions-outside .ensures))) in
+    passes (a .f .now) (a .cdef) (a .n) (a .recs .now) h _ (c .before .before .reorder-some .ensures)
+
+reorder-many-requires : tie.Need-reorder-many-requires
+reorder-many-requires c κs =
+    let a = c .before .before .before .before .before .before .before .before .before .before .before .before .before .before .args in
+    let h : Says false (reorderOutside (a .f .now) (a .cdef) (a .n) (a .recs .now)) = (omega arith, (omega arith, said false (definitionsOutside (a .f .now) (a .cdef)) (sym (c .before .before .before .before .before .before .before .before .if3 .left) ∙ c .before .before .before .before .before .before .before .before .before .definitions-outside .ensures))) in
+    runnable (a .f .now) (a .cdef) (a .n) (a .recs .now) h (omega arith) (omega arith)
+
+same-length-3 : tie.Need-same-length-3
+same-length-3 c = search needs
+
+returns-8 : tie.Need-returns-8
+returns-8 c =
+    let a = c .before .before .before .before .before .before .before .before .before .before .before .before .before .before .before .before .before .args in
+    let h : Says false (reorderOutside (a .f .now) (a .cdef) (a .n) (a .recs .now)) = (omega arith, (omega arith, said false (definitionsOutside (a .f .now) (a .cdef)) (sym (c .before .before .before .before .before .before .before .before .before .before .before .if3 .left) ∙ c .before .before .before .before .before .before .before .before .before .before .before .before .definitions-outside .ensures))) in
+    passes (a .f .now) (a .cdef) (a .n) (a .recs .now) h _ (c .before .before .reorder-many .ensures)
 
 pub opj-jp2-apply-cdef-spec : {M : Type 1} → statement M
 opj-jp2-apply-cdef-spec =
     tie.close
     (tie.spec
-    check-requires
     returns
+    returns-2
+    definitions-outside-requires
+    returns-3
+    returns-4
+    returns-5
     reorder-few-requires
     same-length
-    returns-2
-    reorder-many-requires
+    returns-6
+    reorder-some-requires
     same-length-2
-    returns-3)
+    returns-7
+    reorder-many-requires
+    same-length-3
+    returns-8)
