@@ -42,8 +42,10 @@
  * Threads. The library has no state: no variable outlives a call, nothing is allocated, and nothing but memset is called.
  * Any number of threads may call at once, with lists of their own.
  *
- * Stack. cuzhantir_finish and cuzhantir_picture work in lists on the stack, of one size whatever the picture.
- * CUZHANTIR_STACK_FINISH and CUZHANTIR_STACK_READ bound what the entries take; include/test/stack.c measures them.
+ * Stack. cuzhantir_finish and cuzhantir_picture work in lists on the stack. How long these are depends on the number of
+ * channels: the columns of a mapped palette, else the components. CUZHANTIR_STACK_FINISH_64 bounds what the two take for at
+ * most 64 channels, CUZHANTIR_STACK_FINISH for any number, and CUZHANTIR_STACK_READ what the other entries take;
+ * include/test/stack.c measures them.
  */
 #ifndef CUZHANTIR_JP2_H
 #define CUZHANTIR_JP2_H
@@ -55,8 +57,9 @@
 extern "C" {
 #endif
 
-/* Bytes of stack: the most for finishing, and for reading and writing. */
+/* Bytes of stack: the most for finishing, for finishing with at most 64 channels, and for reading and writing. */
 #define CUZHANTIR_STACK_FINISH 163840
+#define CUZHANTIR_STACK_FINISH_64 24576
 #define CUZHANTIR_STACK_READ 8192
 
 /*

@@ -1,7 +1,7 @@
 /*
  * Measures how much stack each entry takes, and holds it to the bounds of the header.
  *
- *   stack PICTURE          PICTURE is a file with definitions or a palette
+ *   stack PICTURE          PICTURE is a file with definitions or a palette, of at most 64 channels
  *
  * An entry runs in a thread whose stack is filled with a pattern before. The deepest byte that has changed afterwards says
  * how much was taken; what a thread takes that calls nothing is subtracted.
@@ -19,9 +19,11 @@
 
 #define STACK_BYTES (1024 * 1024)
 #define PATTERN 0xa5
+#define FEW 64
+#define SOME 1024
 #define MOST 16384
 
-static uint8_t file[65536];
+static uint8_t file[131072];
 static size_t file_len;
 static uint64_t reading[CUZHANTIR_READING_LENGTH];
 static uint64_t answer[CUZHANTIR_ANSWER_LENGTH];
@@ -100,7 +102,7 @@ static int within(const char *what, job j, size_t bound) {
   size_t all = taken(j);
   size_t used = all > own ? all - own : 0;
   int fits = returned == CUZHANTIR_DONE && used > 0 && used <= bound;
-  printf("%-44s %6zu bytes of %6zu%s\n", what, used, bound, fits ? "" : ": does not hold");
+  printf("%-52s %6zu bytes of %6zu%s\n", what, used, bound, fits ? "" : ": does not hold");
   return fits;
 }
 
@@ -116,6 +118,57 @@ static void set_components(uint32_t n) {
   count = n;
 }
 
+/* A number of so many bytes at the end of the file. */
+static void put(size_t bytes, uint32_t value) {
+  while (bytes > 0) {
+    bytes--;
+    file[file_len++] = (uint8_t)(value >> (8 * bytes) & 0xff);
+  }
+}
+
+static void put_header(uint32_t content, uint32_t kind) {
+  put(4, 8 + content);
+  put(4, kind);
+}
+
+/* A file of n channels, whose definitions reverse their order. */
+static void set_reversed(uint32_t n) {
+  uint32_t ihdr = 14, cdef = 2 + CUZHANTIR_CDEF_BYTES * n, c;
+  file_len = 0;
+  put_header(4, 0x6a502020);
+  put(4, 0x0d0a870a);
+  put_header(12, 0x66747970);
+  put(4, 0x6a703220);
+  put(4, 0);
+  put(4, 0x6a703220);
+  put_header(8 + ihdr + 8 + cdef, 0x6a703268);
+  put_header(ihdr, 0x69686472);
+  put(4, 1);
+  put(4, 1);
+  put(2, n);
+  put(4, 0x07070000);
+  put_header(cdef, 0x63646566);
+  put(2, n);
+  for (c = 0; c < n; c++) {
+    put(2, c);
+    put(2, 0);
+    put(2, n - c);
+  }
+}
+
+/* Reads, and finishes in both ways, a picture of n channels in reverse order. */
+static int within_reversed(uint32_t n, size_t bound) {
+  char what[64];
+  int holds;
+  set_reversed(n);
+  set_components(n);
+  reads();
+  snprintf(what, sizeof what, "finishing, %u channels in reverse", (unsigned)n);
+  holds = within(what, finishes, bound);
+  snprintf(what, sizeof what, "reading and finishing, %u channels in reverse", (unsigned)n);
+  return within(what, reads_and_finishes, bound) && holds;
+}
+
 int main(int argc, char **argv) {
   FILE *f = argc == 2 ? fopen(argv[1], "rb") : NULL;
   int holds = 1;
@@ -126,8 +179,11 @@ int main(int argc, char **argv) {
   fclose(f);
   holds &= within("reading", reads, CUZHANTIR_STACK_READ);
   set_components((uint32_t)reading[CUZHANTIR_READING_NUMCOMPS]);
-  holds &= within("finishing", finishes, CUZHANTIR_STACK_FINISH);
-  holds &= within("reading and finishing", reads_and_finishes, CUZHANTIR_STACK_FINISH);
+  holds &= within("finishing", finishes, CUZHANTIR_STACK_FINISH_64);
+  holds &= within("reading and finishing", reads_and_finishes, CUZHANTIR_STACK_FINISH_64);
+  holds &= within_reversed(FEW, CUZHANTIR_STACK_FINISH_64);
+  holds &= within_reversed(SOME, CUZHANTIR_STACK_FINISH);
+  holds &= within_reversed(MOST, CUZHANTIR_STACK_FINISH);
   ignore = 1;
   set_components(MOST);
   holds &= within("finishing, 16384 components", finishes, CUZHANTIR_STACK_FINISH);
