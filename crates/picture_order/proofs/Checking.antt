@@ -1,15 +1,18 @@
 -- What a checked task says, and what a run starts from.
 -- Assumes nothing.
-use Prim.Native.Nat.{ℕ, _+_, _*_, _≤_, _<_}
+use Prim.Native.Nat.{ℕ, _+_, _*_, _/_, _≤_, _<_}
 use mathlib.Core.Path.{_≡_, refl, sym, _∙_}
 use mathlib.Core.Bool.{true, false}
 use mathlib.Core.List.{List}
 use native.Mathlib.Omega.{arith}
 use native.Mathlib.Decide.{ℕ-discrete}
 use lib.ListN.{length, getD}
+use Rattle.box_number.specs.Table.{holds}
 use Rattle.box_number.proofs.Rows.{Says, row, each}
+use Rattle.box_number.proofs.Answers.{said}
 use Rattle.read_record.specs.declared.Span.{Span}
 use Rattle.read_record.specs.declared.Answer.the-variants.{Done, Refused}
+use Rattle.read_channels.specs.Definitions.{definitionsOutside}
 use Rattle.picture_rules.specs.Flat.{flat}
 use Rattle.picture_order.specs.Flat.{reorderOutside, reordered, answered, afterwards}
 use Rattle.picture_order.specs.Comps.{numbered}
@@ -32,8 +35,8 @@ module _ (f : List ℕ) (cdef : Span) (m n : ℕ) where
     out : Says true (astray f cdef m n) → Says true (reorderOutside f cdef n l)
     out h = λ x y. h x (omega arith)
 
-    inside : Says false (astray f cdef m n) → Says false (reorderOutside f cdef n l)
-    inside h = (h .0, (omega (arith, h .1 .0), h .1 .1))
+    within-list : Says false (astray f cdef m n) → Says false (reorderOutside f cdef n l)
+    within-list h = (h .0, (omega (arith, h .1 .0), h .1 .1))
 
     unchanged : Says false (astray f cdef m n) → ((n ≡ 0 → ⊥) → cdef .count ≡ 0) → reordered f cdef n l ≡ l
     unchanged h none = go (ℕ-discrete n 0)
@@ -61,16 +64,16 @@ module _ (f : List ℕ) (cdef : Span) (m n : ℕ) where
             within = omega arith;
             needed = λ x. absurd (omega arith);
             in-file = omega arith;
-            answers = λ l i j. row 1 _ (inside l i j h, tt) refl;
-            leaves = λ l i j. no-records f _ 0 l refl ∙ row 1 _ (inside l i j h, tt) (sym (unchanged l i j h z));
+            answers = λ l i j. row 1 _ (within-list l i j h, tt) refl;
+            leaves = λ l i j. no-records f _ 0 l refl ∙ row 1 _ (within-list l i j h, tt) (sym (unchanged l i j h z));
           }),
           λ z. record {
             few = h .0;
             within = h .1 .0;
             needed = λ x. omega (arith, z .0);
             in-file = h .1 .1 (z .1) .1;
-            answers = λ l i j. row 1 _ (inside l i j h, tt) refl;
-            leaves = λ l i j. row 1 _ (inside l i j h, tt) refl;
+            answers = λ l i j. row 1 _ (within-list l i j h, tt) refl;
+            leaves = λ l i j. row 1 _ (within-list l i j h, tt) refl;
           },
         ),
       ))
@@ -84,6 +87,9 @@ module _ (f : List ℕ) (cdef : Span) (n : ℕ) (l : List ℕ) where
   pub passes : Says false (reorderOutside f cdef n l) → (m : List ℕ) → m ≡ reordered f cdef n l → (Done ≡ answered f cdef n l) × (m ≡ afterwards f cdef n l)
   unfolding answered afterwards
   passes h m e = (row 1 _ (h, tt) refl, row 1 _ (h, tt) e)
+
+  pub inside : n ≤ 16384 → n ≤ length l / 13 → false ≡ holds (definitionsOutside f cdef) → Says false (reorderOutside f cdef n l)
+  inside few room out = (few, (omega arith, said false (definitionsOutside f cdef) out))
 
   pub runnable : Says false (reorderOutside f cdef n l) → (n ≡ 0 → ⊥) → (cdef .count ≡ 0 → ⊥) → Runnable f (record { place = cdef .place; n = n; count = cdef .count }) (length l)
   runnable h some defined = (omega (arith, some), h .0, h .1 .0, h .1 .1 defined .1)
