@@ -1,6 +1,6 @@
 //! The files that are read.
 
-use oracle::generate::{plain, FTYP, IHDR, JP, JP2C, JP2H, MAGIC};
+use oracle::generate::{plain, FREE, FTYP, IHDR, JP, JP2C, JP2H, MAGIC};
 
 const BPCC: u32 = 0x6270_6363;
 const COLR: u32 = 0x636f_6c72;
@@ -10,13 +10,35 @@ const CDEF: u32 = 0x6364_6566;
 
 /// A file with these boxes in `jp2h`, and an empty codestream.
 pub fn file(children: &[Vec<u8>]) -> Vec<u8> {
+    file_around(&[], children, &[])
+}
+
+/// A file with these boxes before `jp2h`, in it and after it, and an empty codestream.
+pub fn file_around(before: &[Vec<u8>], children: &[Vec<u8>], after: &[Vec<u8>]) -> Vec<u8> {
     [
         plain(JP, &MAGIC),
         plain(FTYP, b"jp2 \0\0\0\0jp2 "),
+        before.concat(),
         plain(JP2H, &children.concat()),
+        after.concat(),
         plain(JP2C, &[]),
     ]
     .concat()
+}
+
+/// A box that is skipped wherever it stands.
+pub fn free() -> Vec<u8> {
+    plain(FREE, &[])
+}
+
+/// A further `ihdr`, which is left unread whatever it holds.
+pub fn further_ihdr() -> Vec<u8> {
+    plain(IHDR, &[])
+}
+
+/// A further `colr`, the shortest that is no fault; it is left unread.
+pub fn further_colr() -> Vec<u8> {
+    plain(COLR, &[0; 3])
 }
 
 pub fn ihdr(width: u32, height: u32, count: u16) -> Vec<u8> {

@@ -38,6 +38,8 @@ fn main() -> ExitCode {
         ["--readme"] => Table::for_the_readme(),
         ["--repeat", "reorder"] => return repeat::reorder(),
         ["--repeat", "palette"] => return repeat::palette(),
+        ["--readings"] => return reading::list(),
+        ["--read", who, name, calls] => return reading::repeat(who, name, calls),
         _ => {
             eprintln!("bench: arguments are none, --readme, --repeat reorder or --repeat palette");
             return ExitCode::FAILURE;
