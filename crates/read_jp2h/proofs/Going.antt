@@ -42,7 +42,7 @@ pub record Going (kind : Jp2BoxType) (place : ℕ) (w : Result) (l lone : Bool) 
 
 -- a box that was found lies in c, and its reader's answer decides the whole
 pub record Here (kind : Jp2BoxType) (place : ℕ) (w : Result) (l : Bool) (at : ℕ) (c : List ℕ) (lacks : Bool) (k : Jp2) (b : Item) : Type 0 where
-  pub head : b .header .«header_length» ≤ length c
+  pub head : b .header .«header_length» ≤ b .header .length
   pub size : b .header .length ≤ length c
   pub stop : {n p : ℕ} → readItem b at c k ≡ refused n p → w ≡ refused n p
   pub on : {m : Jp2} {lack : Bool} → readItem b at c k ≡ accepted m → lack ≡ (not (holds (b .header .ty is IHDR)) && lacks) → Going kind place w l false (at + b .header .length) (drop (b .header .length) c) lack m
@@ -108,7 +108,7 @@ module _ {kind : Jp2BoxType} {place : ℕ} {w : Result} {l : Bool} {at : ℕ} {c
   here-child some z g =
       let q = sound c z in
       record {
-        head = omega (arith, q .header);
+        head = omega (arith, q .least);
         size = omega (arith, q .most);
         stop = λ {n} {p} e. with-fuel some g (λ (m : ℕ). readAll (split m at c) k ≡ w → w ≡ refused n p) (λ m s. sym s ∙ rw (split-more at c m some z, e)) (g .left .0);
         on = λ {m} {lack} e h. with-fuel some g (λ (n : ℕ). length c ≤ n → readAll (split n at c) k ≡ w → (lacksIhdr (split n at c) && lacks) ≡ l → Going kind place w l false (at + boxLength c) (drop (boxLength c) c) lack m) (λ n b s t.

@@ -14,6 +14,7 @@ use Rattle.box_header.specs.Box.{largest}
 use Rattle.box_kind.specs.declared.Jp2BoxType.{Jp2BoxType}
 use Rattle.box_kind.specs.declared.Jp2BoxType.the-variants.{JP2H}
 use Rattle.read_record.specs.declared.Jp2.{Jp2}
+use Rattle.read_record.specs.declared.Status.{Status}
 use Rattle.read_record.specs.Record.{withStatus, withImgstate}
 use Rattle.read_record.specs.State.{fileTypeBit}
 use Rattle.read_record.specs.Answer.{Result, accepted, refused}
@@ -27,6 +28,19 @@ use Rattle.read_jp2h.proofs.Going.{Going}
 and-true : (b : Bool) → (b && true) ≡ b
 and-true true = refl
 and-true false = refl
+
+-- the answer of the loop, and whether an ihdr lacks, by whether the box is alone; k is the record before the first box
+abbrev pub whole : Jp2BoxType → ℕ → ℕ → List ℕ → Jp2 → Bool → Result
+whole kind place start c k true = reader kind place start c k
+whole kind place start c k false = readAll (boxes start c) k
+
+abbrev pub lack : ℕ → List ℕ → Bool → Bool
+lack start c true = false
+lack start c false = lacksIhdr (boxes start c)
+
+pub going-start : (kind : Jp2BoxType) (place start : ℕ) (c : List ℕ) (k : Jp2) (alone : Bool) → start + length c ≤ largest → Going kind place (whole kind place start c k alone) (lack start c alone) alone start c (not alone) k
+going-start kind place start c k true h = record { fuel = length c; enough = omega arith; room = h; left = (refl, refl, refl) }
+going-start kind place start c k false h = record { fuel = length c; enough = omega arith; room = h; left = (refl, and-true (lacksIhdr (boxes start c))) }
 
 -- jp2h is a box of the header
 pub box-alone : (place start : ℕ) (c : List ℕ) (j : Jp2) → headerBox JP2H place start c j ≡ jp2hAlone place start c j
@@ -43,19 +57,6 @@ module _ (kind : Jp2BoxType) (place start : ℕ) (c : List ℕ) (j : Jp2) where
     pub box-jp2h : tag kind ≡ tag JP2H → headerBox kind place start c j ≡ jp2h place start c j
     unfolding headerBox
     box-jp2h i = sym (row 1 _ (room, i) refl)
-
-  -- the answer of the loop, and whether an ihdr lacks, by whether the box is alone
-  abbrev pub whole : Bool → Result
-  whole true = reader kind place start c j
-  whole false = readAll (boxes start c) (withImgstate 0 j)
-
-  abbrev pub lack : Bool → Bool
-  lack true = false
-  lack false = lacksIhdr (boxes start c)
-
-  pub going-start : (alone : Bool) → start + length c ≤ largest → Going kind place (whole alone) (lack alone) alone start c (not alone) (withStatus (opened alone (j .status)) j)
-  going-start true h = record { fuel = length c; enough = omega arith; room = h; left = (refl, refl, refl) }
-  going-start false h = record { fuel = length c; enough = omega arith; room = h; left = (refl, and-true (lacksIhdr (boxes start c))) }
 
   -- what is known of a box that is alone, and of jp2h
   abbrev Kind : Bool → Type 0
@@ -87,17 +88,35 @@ module _ (kind : Jp2BoxType) (place start : ℕ) (c : List ℕ) (j : Jp2) where
           ),
         ))
 
-  pub box-stop : (alone : Bool) (a : alone ≡ not (holds (kind is JP2H))) → Fit alone a → {n p : ℕ} → whole alone ≡ refused n p → refused n p ≡ headerBox kind place start c j
+  stop : (alone : Bool) (a : alone ≡ not (holds (kind is JP2H))) → Fit alone a → {n p : ℕ} → whole kind place start c (withStatus (opened alone (j .status)) j) alone ≡ refused n p → refused n p ≡ headerBox kind place start c j
   unfolding headerBox jp2h
-  box-stop true a f e = row 2 _ (f .0, (kind-by true a, tt)) (sym e)
-  box-stop false a f e = row 1 _ (f .0, kind-by false a) (row 1 _ (f .1 refl, tt) (rw e))
+  stop true a f e = row 2 _ (f .0, (kind-by true a, tt)) (sym e)
+  stop false a f e = row 1 _ (f .0, kind-by false a) (row 1 _ (f .1 refl, tt) (rw e))
 
-  pub box-lacks : (alone : Bool) (a : alone ≡ not (holds (kind is JP2H))) → Fit alone a → {k : Jp2} → whole alone ≡ accepted k → lack alone ≡ true → refused 12 place ≡ headerBox kind place start c j
+  lacks : (alone : Bool) (a : alone ≡ not (holds (kind is JP2H))) → Fit alone a → {k : Jp2} → whole kind place start c (withStatus (opened alone (j .status)) j) alone ≡ accepted k → lack start c alone ≡ true → refused 12 place ≡ headerBox kind place start c j
   unfolding headerBox jp2h
-  box-lacks true a f e l = true-false (sym l)
-  box-lacks false a f e l = row 1 _ (f .0, kind-by false a) (row 1 _ (f .1 refl, tt) (rw e (row 0 _ l refl)))
+  lacks true a f e l = true-false (sym l)
+  lacks false a f e l = row 1 _ (f .0, kind-by false a) (row 1 _ (f .1 refl, tt) (rw e (row 0 _ l refl)))
 
-  pub box-done : (alone : Bool) (a : alone ≡ not (holds (kind is JP2H))) → Fit alone a → {k m : Jp2} → whole alone ≡ accepted k → lack alone ≡ false → m ≡ withStatus (closed alone (k .status)) k → accepted m ≡ headerBox kind place start c j
+  done : (alone : Bool) (a : alone ≡ not (holds (kind is JP2H))) → Fit alone a → {k m : Jp2} → whole kind place start c (withStatus (opened alone (j .status)) j) alone ≡ accepted k → lack start c alone ≡ false → m ≡ withStatus (closed alone (k .status)) k → accepted m ≡ headerBox kind place start c j
   unfolding headerBox jp2h
-  box-done true a f e l q = row 2 _ (f .0, (kind-by true a, tt)) (ap accepted q ∙ sym e)
-  box-done false a f e l q = row 1 _ (f .0, kind-by false a) (row 1 _ (f .1 refl, tt) (rw e (row 1 _ (l, tt) (ap accepted q))))
+  done true a f e l q = row 2 _ (f .0, (kind-by true a, tt)) (ap accepted q ∙ sym e)
+  done false a f e l q = row 1 _ (f .0, kind-by false a) (row 1 _ (f .1 refl, tt) (rw e (row 1 _ (l, tt) (ap accepted q))))
+
+  -- the status before the first box
+  module _ (alone : Bool) (a : alone ≡ not (holds (kind is JP2H))) (f : Fit alone a) {s : Status} (q : s ≡ opened alone (j .status)) where
+    abbrev Answers : Result → Type 0
+    Answers r = whole kind place start c (withStatus s j) alone ≡ r
+
+    -- the answer of the loop, by that of the box
+    box-is : {r : Result} → Answers r → whole kind place start c (withStatus (opened alone (j .status)) j) alone ≡ r
+    box-is {r} e = subst (λ (x : Status). whole kind place start c (withStatus x j) alone ≡ r) q e
+
+    pub box-stop : {n p : ℕ} → Answers (refused n p) → refused n p ≡ headerBox kind place start c j
+    box-stop e = stop alone a f (box-is e)
+
+    pub box-lacks : {k : Jp2} → Answers (accepted k) → lack start c alone ≡ true → refused 12 place ≡ headerBox kind place start c j
+    box-lacks e l = lacks alone a f (box-is e) l
+
+    pub box-done : {k m : Jp2} → Answers (accepted k) → lack start c alone ≡ false → m ≡ withStatus (closed alone (k .status)) k → accepted m ≡ headerBox kind place start c j
+    box-done e l m = done alone a f (box-is e) l m

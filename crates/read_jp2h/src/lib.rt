@@ -7,7 +7,8 @@ ghost use Rattle.box_number.specs.Table.{holds};
 ghost use Rattle.box_kind.specs.Kind.{_is_};
 ghost use Rattle.box_kind.specs.declared.Jp2BoxType.the-variants.{IHDR, JP2H};
 ghost use Rattle.box_header.specs.Box.{largest};
-ghost use Rattle.read_record.specs.Answer.{answer};
+ghost use Rattle.read_record.specs.Record.{blank};
+ghost use Rattle.read_record.specs.Answer.{refused, answer};
 ghost use Rattle.read_record.specs.State.{withBit};
 ghost use Rattle.read_jp2h.specs.Child.{reader};
 ghost use Rattle.read_jp2h.specs.Jp2h.{jp2hAlone};
@@ -108,12 +109,13 @@ fn find_next(lone: bool, ty: Jp2BoxType, place: u32, c: &[u8], at: u32) -> Next
 
 // Reads the box, which lies in the bytes c that are left.
 fn read_item(b: Item, c: &[u8], at: u32, k: Jp2) -> Outcome
-    requires { ⌜ at + b .header .«header_length» ≤ largest ⌝ }
+    requires { ⌜ (b .header .«header_length» ≤ b .header .length) × (b .header .length ≤ length (now c)) × (at + b .header .«header_length» ≤ largest) ⌝ }
     ensures { λ r. ⌜ r ≡ answer k (readItem b at (now (c .entry)) k) ⌝ }
 {
     let h = b.header;
     let head = h.header_length as usize;
-    let content = box_number::part(c, head, head + h.content_length() as usize);
+    let size = h.length as usize;
+    let content = &c[head..size];
     let start = at + h.header_length;
     let ty = h.ty;
     read_content(ty, content, b.place, start, k)
@@ -193,16 +195,24 @@ fn is_alone(ty: Jp2BoxType) -> bool
     true
 }
 
+// A refusal, with the record before any box.
+fn refuse(number: u32, place: u32) -> Outcome
+    ensures { λ r. ⌜ r ≡ answer blank (refused number place) ⌝ }
+{
+    Outcome::refused(number, place, read_record::opj_jp2_create())
+}
+
 // Reads jp2h, or a box of another kind outside jp2h as a list of one. One loop serves both, so that the readers are chosen and called at one place.
-// There the record is changed in place. A second such call would copy it at each box, which takes longer than reading a small box (docs/DECISIONS.md, 69).
-pub fn read_header_box(ty: Jp2BoxType, c: &[u8], place: u32, start: u32, j: Jp2) -> Outcome
-    ensures { λ r. ⌜ r ≡ answer j (headerBox ty place start (now (c .entry)) j) ⌝ }
+// There the record is changed in place. A second such call would copy it at each box, which takes longer than reading a small box, and so would a record that is kept
+// for a refusal (docs/DECISIONS.md, 69). So a refusal has the record before any box: a caller has its own.
+pub fn take_header_box(ty: Jp2BoxType, c: &[u8], place: u32, start: u32, j: Jp2) -> Outcome
+    ensures { λ r. ⌜ r ≡ answer blank (headerBox ty place start (now (c .entry)) j) ⌝ }
 {
     let alone = is_alone(ty);
     let status = j.status;
     let number = refusal(alone, c, start, status.state);
     if 0 < number {
-        return Outcome::refused(number, place, j);
+        return refuse(number, place);
     }
     let first = opened(alone, status);
     let mut k = j;
@@ -217,20 +227,20 @@ pub fn read_header_box(ty: Jp2BoxType, c: &[u8], place: u32, start: u32, j: Jp2)
         match next {
             Next::Nothing => {
                 if lacks {
-                    return Outcome::refused(12, place, j);
+                    return refuse(12, place);
                 }
                 let last = closed(alone, k.status);
                 k.status = last;
                 return Outcome::done(k);
             }
             Next::Fault(n) => {
-                return Outcome::refused(n, at, j);
+                return refuse(n, at);
             }
             Next::Found(b) => {
                 let outcome = read_item(b, rest, at, k);
                 let answer = outcome.answer;
                 if let Answer::Refused(n, p) = answer {
-                    return Outcome::refused(n, p, j);
+                    return refuse(n, p);
                 }
                 let h = b.header;
                 let size = h.next(0);
@@ -242,6 +252,18 @@ pub fn read_header_box(ty: Jp2BoxType, c: &[u8], place: u32, start: u32, j: Jp2)
             }
         }
     }
+}
+
+// The same, and a refusal leaves the record as it was.
+pub fn read_header_box(ty: Jp2BoxType, c: &[u8], place: u32, start: u32, j: Jp2) -> Outcome
+    ensures { λ r. ⌜ r ≡ answer j (headerBox ty place start (now (c .entry)) j) ⌝ }
+{
+    let outcome = take_header_box(ty, c, place, start, j);
+    let answer = outcome.answer;
+    if let Answer::Refused(n, p) = answer {
+        return Outcome::refused(n, p, j);
+    }
+    Outcome::done(outcome.jp2)
 }
 
 // Reads jp2h.

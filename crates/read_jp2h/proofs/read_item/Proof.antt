@@ -1,11 +1,8 @@
 -- `read_jp2h::read_item` meets its contract.
 -- Assumes nothing.
-use mathlib.Core.Path.{ap, _∙_}
-use mathlib.Core.List.{List}
-use Prim.Native.Nat.{ℕ, _+_}
-use Rattle.box_header.proofs.Headers.{part-content}
+use mathlib.Core.Path.{refl}
+use Rattle.box_number.specs.Number.{part}
 use Rattle.read_record.proofs.Told.{told}
-use Rattle.read_jp2h.specs.Child.{reader}
 use borrow.Author.Needs.{needs}
 use Rattle.read_jp2h.proofs.read_item.Statement.{statement}
 use Rattle.read_jp2h.proofs.read_item.Tie as tie
@@ -13,17 +10,17 @@ use Rattle.read_jp2h.proofs.read_item.Tie as tie
 cast-head : tie.Need-cast-head
 cast-head c = search needs
 
-content-length-requires : tie.Need-content-length-requires
-content-length-requires c κs = tt
+cast-size : tie.Need-cast-size
+cast-size c = search needs
 
-cast-part : tie.Need-cast-part
-cast-part c = search needs
+sub-content : tie.Need-sub-content
+sub-content c = search needs
 
-add-part : tie.Need-add-part
-add-part c = search needs
+part-content-start : tie.Need-part-content-start
+part-content-start c = search needs
 
-part-requires : tie.Need-part-requires
-part-requires c κs = tt
+part-content-end : tie.Need-part-content-end
+part-content-end c = search needs
 
 add-start : tie.Need-add-start
 add-start c = search needs
@@ -32,17 +29,18 @@ read-content-requires : tie.Need-read-content-requires
 read-content-requires c κs = tt
 
 returns : tie.Need-returns
-returns c = let a = c .before .before .before .before .before .before .before .args in let h = a .b .header in told _ _ _ (c .read-content .ensures) (ap (λ (x : List ℕ). reader (h .ty) (a .b .place) (a .at + h .«header_length») x (a .k)) (c .before .before .part .ensures ∙ part-content (a .c .now) h (c .before .before .before .content-length .ensures)))
+unfolding part
+returns c = told _ _ _ (c .read-content .ensures) refl
 
 pub read-item-spec : {M : Type 1} → statement M
 read-item-spec =
     tie.close
     (tie.spec
     cast-head
-    content-length-requires
-    cast-part
-    add-part
-    part-requires
+    cast-size
+    sub-content
+    part-content-start
+    part-content-end
     add-start
     read-content-requires
     returns)
