@@ -21,7 +21,8 @@ use Rattle.box_kind.specs.declared.Jp2BoxType.the-variants.{None, JPIP, JP, FTY
 use Rattle.box_kind.proofs.KindNumbers.{by-tag, not-named}
 use Rattle.box_header.proofs.Headers.{box-all}
 use Rattle.read_record.specs.declared.Jp2.{Jp2}
-use Rattle.read_record.specs.Answer.{Result, accepted, refused}
+use Rattle.read_record.specs.declared.Outcome.{Outcome}
+use Rattle.read_record.specs.Answer.{Result, accepted, refused, answer}
 use Rattle.read_jp2h.specs.Split.{Boxes, firstBox, split}
 use Rattle.read_jp2h.specs.HeaderBox.{headerBox}
 use Rattle.read_jp2h.proofs.Ways.{box-child, box-jp2h}
@@ -39,6 +40,15 @@ gives j w v e f = e ∙ ap (reading j) f
 pub gives-end : (j k : Jp2) (v : Walked) {r : Reading} → r ≡ reading k (ended k) → ended k ≡ v → r ≡ reading j v
 unfolding reading
 gives-end j k v e f = e ∙ ap (reading j) f
+
+-- what was answered is what the definition says, and the record after a refusal may be any
+pub freed : (k : Jp2) (x y : Result) {r : Outcome} → r ≡ answer k x → x ≡ y → r ≡ answer (r .jp2) y
+unfolding answer
+freed k x y e f = free y (e ∙ ap (answer k) f)
+  where
+    free : (y : Result) {r : Outcome} → r ≡ answer k y → r ≡ answer (r .jp2) y
+    free (accepted m) e = e
+    free (refused n p) e = e ∙ ap (λ (j : Jp2). answer j (refused n p)) (sym (ap (λ (o : Outcome). o .jp2) e))
 
 -- the tags of the kinds other than jp2c
 abbrev pub not-streams : List ℕ

@@ -78,9 +78,9 @@ module _ {w : Walked} {at : ℕ} {c : List ℕ} {k : Jp2} (g : Going w at c k) w
       pub going-less : {n : ℕ} → n ≡ 0 + h .length → length (take (length c - n) (drop n c)) < length c
       going-less {n} z = let q = going-fits in rw (rest-is c n, length-drop) (omega arith)
 
-      module _ {o : Outcome} (d : o ≡ answer k (outer (firstBox at c) k)) where
+      module _ {o : Outcome} (d : o ≡ answer (o .jp2) (outer (firstBox at c) k)) where
         pub going-down : {n p : ℕ} → o .answer ≡ Refused n p → fileRefused n p ≡ w
-        going-down a = runs-to (λ n. found-tells at c k n some e f .3 ∙ rw (answer-refused k (outer (firstBox at c) k) d a))
+        going-down a = runs-to (λ n. found-tells at c k n some e f .3 ∙ rw (answer-refused (o .jp2) (outer (firstBox at c) k) d a))
 
         pub going-on : {n i : ℕ} → o .answer ≡ Done → n ≡ 0 + h .length → i ≡ at + h .length → Going w i (take (length c - n) (drop n c)) (o .jp2)
         going-on {n} {i} a m p =
@@ -94,7 +94,7 @@ module _ {w : Walked} {at : ℕ} {c : List ℕ} {k : Jp2} (g : Going w at c k) w
                   fuel = n;
                   enough = rw length-drop (omega arith);
                   room = rw length-drop (omega (arith, g .room));
-                  same = rw (heads-long going-heads) (rw (answer-done k (outer (firstBox at c) k) d a) at (sym (found-tells at c k n some e f .3) ∙ s));
+                  same = rw (heads-long going-heads) (rw (answer-done (o .jp2) (outer (firstBox at c) k) d a) at (sym (found-tells at c k n some e f .3) ∙ s));
                 }
 
 -- the ways through the walk

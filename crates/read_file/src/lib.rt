@@ -171,21 +171,21 @@ fn is_early(ty: Jp2BoxType, state: u32) -> bool
     state / HEADER % 2 == 0
 }
 
-// jp2h, or a box of it outside jp2h. Such a box is skipped before the header bit is set.
+// jp2h, or a box of it outside jp2h. Such a box is skipped before the header bit is set. The record after a refusal is any, here and in the callers: the walk has its own.
 fn read_header(ty: Jp2BoxType, c: &[u8], at: u32, start: u32, k: Jp2) -> Outcome
-    ensures { λ r. ⌜ r ≡ answer k (headerOrSkipped ty at start (now (c .entry)) k) ⌝ }
+    ensures { λ r. ⌜ r ≡ answer (r .jp2) (headerOrSkipped ty at start (now (c .entry)) k) ⌝ }
 {
     let status = k.status;
     if is_early(ty, status.state) {
         return skip(k);
     }
-    read_jp2h::read_header_box(ty, c, at, start, k)
+    read_jp2h::take_header_box(ty, c, at, start, k)
 }
 
 // Reads the content of a box of the file by the reader of its kind. jp2h and the boxes that belong into it have one arm: read_jp2h says why.
 fn read_outer(ty: Jp2BoxType, c: &[u8], at: u32, start: u32, k: Jp2) -> Outcome
     requires { ⌜ start + length (now c) ≤ largest ⌝ }
-    ensures { λ r. ⌜ r ≡ answer k (outer (boxWith ty at start (now (c .entry))) k) ⌝ }
+    ensures { λ r. ⌜ r ≡ answer (r .jp2) (outer (boxWith ty at start (now (c .entry))) k) ⌝ }
 {
     match ty {
         Jp2BoxType::JP => read_signature::opj_jp2_read_jp(c, at, start, k),
@@ -219,10 +219,11 @@ fn read_past(ty: Jp2BoxType, at: u32, k: Jp2, j: Jp2) -> Reading
 // Reads a box that lies in c, from its first byte on, with the header that was found there.
 fn read_whole(c: &[u8], at: u32, h: Jp2BoxHeader, k: Jp2) -> Outcome
     requires { ⌜ Heads at (now c) h ⌝ }
-    ensures { λ r. ⌜ r ≡ answer k (outer (firstBox at (now (c .entry))) k) ⌝ }
+    ensures { λ r. ⌜ r ≡ answer (r .jp2) (outer (firstBox at (now (c .entry))) k) ⌝ }
 {
     let head = h.header_length as usize;
-    let content = box_number::part(c, head, head + h.content_length() as usize);
+    let size = h.length as usize;
+    let content = &c[head..size];
     let start = at + h.header_length;
     let ty = h.ty;
     read_outer(ty, content, at, start, k)
