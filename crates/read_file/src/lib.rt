@@ -222,8 +222,8 @@ fn read_whole(c: &[u8], at: u32, h: Jp2BoxHeader, k: Jp2) -> Outcome
     ensures { λ r. ⌜ r ≡ answer (r .jp2) (outer (firstBox at (now (c .entry))) k) ⌝ }
 {
     let head = h.header_length as usize;
-    let size = h.length as usize;
-    let content = &c[head..size];
+    let end = head + h.content_length() as usize;
+    let content = &c[head..end];
     let start = at + h.header_length;
     let ty = h.ty;
     read_outer(ty, content, at, start, k)
