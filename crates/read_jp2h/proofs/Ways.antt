@@ -15,7 +15,7 @@ use Rattle.box_kind.specs.declared.Jp2BoxType.{Jp2BoxType}
 use Rattle.box_kind.specs.declared.Jp2BoxType.the-variants.{JP2H}
 use Rattle.read_record.specs.declared.Jp2.{Jp2}
 use Rattle.read_record.specs.declared.Status.{Status}
-use Rattle.read_record.specs.Record.{withStatus, withImgstate}
+use Rattle.read_record.specs.Record.{withStatus}
 use Rattle.read_record.specs.State.{fileTypeBit}
 use Rattle.read_record.specs.Answer.{Result, accepted, refused}
 use Rattle.read_jp2h.specs.Split.{boxes}
