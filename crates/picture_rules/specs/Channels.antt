@@ -1,4 +1,4 @@
--- I.5.3.5 and document 01: the channels of a picture. They are the palette's columns where a mapping exists, else the components.
+-- I.5.3.5 and document 01: the channels of a picture. They are the palette's columns where a mapping exists, else the components: a palette without mappings is dropped (difference 33).
 use Prim.Native.Nat.{ℕ}
 use mathlib.Core.List.{List}
 use Rattle.box_number.specs.Table.{Test, _=?_, _≠?_, _<?_, _and_, otherwise, _⇒_∣_, table}

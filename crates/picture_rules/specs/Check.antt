@@ -1,4 +1,4 @@
--- I.5.3.5, I.5.3.6 and document 01's table: the checks of definitions and mappings. Difference 20: channel 0 may go undefined. Difference 21: a palette mapping names its own column.
+-- I.5.3.5, I.5.3.6 and document 01's table: the checks of definitions and mappings. Difference 20: channel 0 may go undefined. Difference 21: a palette mapping names its own column. Difference 41: colour numbers are held against the count of channels.
 use Prim.Native.Nat.{ℕ, _+_}
 use mathlib.Core.List.{List}
 use Rattle.box_number.specs.Table.{Test, _=?_, _≠?_, _<?_, _or_, _and_}

@@ -57,7 +57,7 @@ outsideFile f m =
 unfoldable pub counted : Settings → Jp2 → Jp2
 counted s m = table (s .ignore =? 0 ⇒ m ∣ otherwise (withPclr (palette 0 0 0) (withCmap (span 0 0) (withCdef (span 0 0) m))))
 
--- number k of a channel's record before reordering: that of its component r, with the depth and sign of its column's b as precision and sign where there are mappings, and with samples of its own
+-- number k of a channel's record before reordering: that of its component r, with the depth and sign of its column's b as precision and sign where there are mappings, for a direct channel too (difference 32), and with samples of its own
 abbrev pub expandedFrom : ℕ → ℕ → Image → ℕ → ℕ → ℕ → ℕ
 expandedFrom b mappings i r start k =
     table

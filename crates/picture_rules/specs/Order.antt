@@ -24,7 +24,7 @@ abbrev pub marked : ℕ → ℕ → Arranged → Arranged
 marked p typ a = record { seat = a .seat; records = λ r k. table (r =? p and k =? alpha ⇒ typ ∣ otherwise (a .records r k)) }
 
 -- one definition. A current position, or a wanted one, without a record passes it over; asoc 0 or 65535 only marks; a colour's record swaps to its place, and the
--- record that is then at the old position takes the mark (difference 31).
+-- record that is then at the old position takes the mark (difference 31). Any typ is a mark (difference 35), and definitions that clash are all run (difference 34).
 unfoldable pub define : ℕ → Def → Arranged → Arranged
 define n d a =
     let p = a .seat (d .channel) in

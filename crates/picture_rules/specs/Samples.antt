@@ -16,7 +16,7 @@ abbrev pub floored : ℤ → ℕ
 floored (pos n) = n
 floored (negsuc n) = 0
 
--- and above the last the last
+-- and above the last the last (difference 37)
 abbrev pub clamped : ℤ → ℕ → ℕ
 clamped s last = least (floored s) last
 

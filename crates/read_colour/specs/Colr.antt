@@ -1,5 +1,5 @@
 -- I.5.3.3, Colour Specification box: METH, PREC, APPROX (1 byte each), then EnumCS (4) and its parameters for METH 1, an ICC profile for METH 2.
--- Differences 8 and 17: a METH of 0 or above 2 leaves its three fields in the record, and the next colr is read; EnumCS may have any value, and 14 is CIELab.
+-- Differences 8 and 17: a METH of 0 or above 2 leaves its three fields in the record, and the next colr is read; EnumCS may have any value, and 14 is CIELab. Difference 36: a further colr of fewer than 3 bytes is refused.
 use Prim.Native.Nat.{ℕ, _+_, _-_}
 use mathlib.Core.List.{List, [], _∷_}
 use lib.ListN.{length}

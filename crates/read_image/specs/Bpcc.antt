@@ -1,4 +1,4 @@
--- I.5.3.2, Bits Per Component box: one byte for each component. Difference 7: it is read whatever BPC says, and a further one takes the place of the one before.
+-- I.5.3.2, Bits Per Component box: one byte for each component. Differences 6 and 7: a byte may have any value; it is read whatever BPC says, and a further one takes the place of the one before.
 use Prim.Native.Nat.{ℕ, _+_}
 use mathlib.Core.List.{List}
 use lib.ListN.{length}

@@ -1,4 +1,4 @@
--- I.5.3: the boxes inside a JP2 Header box, each kind with its reader. A box of another kind is skipped.
+-- I.5.3: the boxes inside a JP2 Header box, each kind with its reader. A box of another kind is skipped, and `res ` too (difference 38).
 use Prim.Native.Nat.{ℕ}
 use mathlib.Core.List.{List}
 use Rattle.box_kind.specs.declared.Jp2BoxType.{Jp2BoxType}

@@ -1,5 +1,5 @@
 -- I.5.3.4, Palette box: NE (2 bytes), NPC (1), then Bi (1 each), the depth and sign of each column, then NE rows of one entry Cji for each column.
--- Difference 9: an entry of more than 32 bits has 4 bytes.
+-- Difference 9: an entry of more than 32 bits has 4 bytes. Differences 39 and 40: bytes after the entries are passed over, and an entry may be larger than its depth.
 use Prim.Native.Nat.{ℕ, zero, suc, _+_, _*_, _/_, _%_}
 use mathlib.Core.List.{List}
 use lib.ListN.{length}

@@ -1,4 +1,4 @@
--- I.5.1, JPEG 2000 Signature box: four bytes, the first box of a file.
+-- I.5.1, JPEG 2000 Signature box: four bytes, the first box of a file. Difference 42: its length may be an extended one.
 use Prim.Native.Nat.{ℕ}
 use mathlib.Core.List.{List}
 use lib.ListN.{length}
