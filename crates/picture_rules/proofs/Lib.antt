@@ -12,6 +12,7 @@ pub mod Checks
 pub mod Listed
 pub mod Mappings
 pub mod Pictures
+pub mod Fronts
 pub mod Destinations
 pub mod Agrees
 pub mod Accepts

@@ -1,6 +1,6 @@
 -- The picture that is made, in front of anything: each channel fills its plane, and a colour's channel the plane of its colour.
 -- Assumes nothing.
-use Prim.Native.Nat.{ℕ, _+_, _-_, _*_, _≤_, _<_}
+use Prim.Native.Nat.{ℕ, suc, _+_, _-_, _*_, _≤_, _<_}
 use mathlib.Core.Path.{_≡_, refl, sym, ap, ap₂, _∙_}
 use mathlib.Core.Bool.{false}
 use mathlib.Core.List.{List, _++_}
@@ -123,6 +123,15 @@ module _ (h : Handed) (m : Jp2) (numbers : List ℕ) (samples : List ℤ) (pairs
             sample = λ some y x a b. sample some y x (omega (arith, high)) (omega (arith, wide));
           }
 
+    -- the samples of a channel come before those of every later one
+    samples-apart :
+        (c d : ℕ) → c < d → d < n → (first i (componentOf f m c) ≡ noData → ⊥) → (first i (componentOf f m d) ≡ noData → ⊥) →
+        first planes (to c) + height planes (to c) * width planes (to c) ≤ first planes (to d)
+    unfolding startOf
+    samples-apart c d l b some other =
+        let a : c < n = omega arith in
+        rw (start c a some, start d b other, high c a, wide c a) (omega (arith, start-more f m i (suc c) d l, size-some i (componentOf f m c) some))
+
     -- no definition moves a channel
     in-order : m .lists .cdef .count ≡ 0 → (c : ℕ) → c < n → to c ≡ c
     unfolding definitionsTo runDefinitions
@@ -139,7 +148,7 @@ module _ (h : Handed) (m : Jp2) (numbers : List ℕ) (samples : List ℤ) (pairs
 
     abbrev filled : FilledPlanes h m planes
     unfolding picture
-    filled = record { all-planes = refl; pairing = paired .pairing; fills = fills }
+    filled = record { all-planes = refl; pairing = paired .pairing; fills = fills; apart = λ c d l b some other. omega (arith, samples-apart c d l b some other) }
 
     pub right : ColourLands → Clear h m → RightPlanes h m planes
     unfolding picture

@@ -30,6 +30,16 @@ pub tells-inside :
     first planes p + height planes p * width planes p ≤ length (planes .samples)
 tells-inside h m planes filled c l some = filled .fills c l .inside some
 
+-- no sample is in two planes
+pub tells-apart :
+    (h : Handed) (m : Jp2) (planes : Image) (filled : FilledPlanes h m planes) (c d : ℕ) → c < d → d < planes .count → (Empty h m c → ⊥) → (Empty h m d → ⊥) →
+    let p = filled .pairing .to c in
+    let q = filled .pairing .to d in
+    (y x : ℕ) → y < height planes p → x < width planes p → first planes p + y * width planes p + x < first planes q
+tells-apart h m planes filled c d l b some other y x a e =
+    let p = filled .pairing .to c in
+    omega (arith, filled .apart c d l b some other, mul-le-mul-right (width planes p) a)
+
 same-picture : {x : Finishing} {made planes : Image} → x ≡ finished made → x ≡ finished planes → planes ≡ made
 same-picture e d = cc
 

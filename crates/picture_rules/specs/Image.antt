@@ -1,5 +1,6 @@
 -- A picture before it is finished, and after: components of thirteen numbers each in one list, and one list of samples.
-use Prim.Native.Nat.{ℕ, _+_, _*_}
+use Prim.Native.Nat.{ℕ, _+_, _*_, _≤_, _<_}
+use mathlib.Core.Path.{_≡_}
 use mathlib.Core.List.{List, [], _++_}
 use lib.IntN.{ℤ, pos}
 use lib.ListN.{length, getD, drop}
@@ -52,3 +53,9 @@ size i c = table (first i c =? noData ⇒ 0 ∣ otherwise (height i c * width i 
 -- a destination d with a list at its front, and the rest as it was
 abbrev pub fronted : {A : Type 0} → List A → List A → List A
 fronted xs d = xs ++ drop (length xs) d
+
+-- the list is at the front, what is behind it stays, and where it has room the length stays too
+pub record Fronting (A : Type 0) : Type 0 where
+  pub front : (xs d : List A) (i : ℕ) (none : A) → i < length xs → getD (fronted xs d) i none ≡ getD xs i none
+  pub behind : (xs d : List A) (i : ℕ) (none : A) → length xs ≤ i → getD (fronted xs d) i none ≡ getD d i none
+  pub long : (xs d : List A) → length xs ≤ length d → length (fronted xs d) ≡ length d
