@@ -12,16 +12,6 @@ pub enum Item {
     Definition,
 }
 
-pub(crate) fn bytes(item: Item) -> usize {
-    match item {
-        Item::Code => 4,
-        Item::Component => 1,
-        Item::Column => 1,
-        Item::Mapping => 4,
-        Item::Definition => 6,
-    }
-}
-
 // Item i of a list, whose bytes c begins with.
 pub(crate) fn show(json: bool, item: Item, i: usize, c: &[u8]) {
     comma(json, i);

@@ -29,9 +29,19 @@ fn each(json: bool, item: Item, list: &[u8], n: usize) {
     let mut i = 0;
     while i < n {
         items::show(json, item, i, rest);
-        let taken = front(rest, items::bytes(item));
+        let taken = front(rest, bytes(item));
         rest = &rest[taken..];
         i += 1;
+    }
+}
+
+fn bytes(item: Item) -> usize {
+    match item {
+        Item::Code => 4,
+        Item::Component => 1,
+        Item::Column => 1,
+        Item::Mapping => 4,
+        Item::Definition => 6,
     }
 }
 

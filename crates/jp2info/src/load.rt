@@ -1,4 +1,5 @@
 // A file by its name, into the room that is lent. Where that fails, standard error has a line with the name and the reason.
+ghost use Rattle.jp2info.specs.Private.Load.{LiesIn};
 use crate::quote;
 use libc::STDERR_FILENO;
 
@@ -8,7 +9,9 @@ pub enum Loaded {
     Nothing,
 }
 
-pub(crate) fn load(name: &[u8], room: &mut [u8]) -> Loaded {
+pub(crate) fn load(name: &[u8], room: &mut [u8]) -> Loaded
+    ensures { λ r. ⌜ LiesIn r (now (room .exit)) ⌝ }
+{
     let fd = os::open_read(name);
     if fd < 0 {
         failed(name);
@@ -20,7 +23,9 @@ pub(crate) fn load(name: &[u8], room: &mut [u8]) -> Loaded {
 }
 
 // After the last byte one more read distinguishes the file's end from a failure, as with a folder, and from a file that is too large.
-fn read(fd: i32, name: &[u8], room: &mut [u8]) -> Loaded {
+fn read(fd: i32, name: &[u8], room: &mut [u8]) -> Loaded
+    ensures { λ r. ⌜ LiesIn r (now (room .exit)) ⌝ }
+{
     let n = io::read_full(fd, room);
     let mut more = [0u8; 1];
     let got = libc::read(fd, &mut more);
