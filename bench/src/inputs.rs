@@ -75,12 +75,7 @@ pub fn mixed(width: u32, height: u32) -> Picture {
 pub fn many_columns(columns: u8) -> Picture {
     let mappings: Vec<_> = (0..columns).map(looked_up).collect();
     Picture::new(
-        file(&[
-            ihdr(1, 1, 1),
-            colr(),
-            pclr_of_one(columns),
-            cmap(&mappings),
-        ]),
+        file(&[ihdr(1, 1, 1), colr(), pclr_of_one(columns), cmap(&mappings)]),
         vec![component(1, 1, 0)],
         samples(1),
         columns.into(),
