@@ -7,7 +7,7 @@ ghost use Rattle.box_number.specs.Number.{placed};
 ghost use Rattle.export_rules.specs.Places.{answerLength};
 ghost use Rattle.export_rules.specs.Answers.{ofFinished, ofWritten, returned};
 use crate::numbers;
-use picture_finish::Finished;
+use picture_rules::Finished;
 use write_boxes::Written;
 
 // How many numbers an answer has.

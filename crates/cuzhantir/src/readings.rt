@@ -1,13 +1,13 @@
 // Finishing a picture whose file was read before: the caller gives the reading as numbers and is not trusted.
 ghost use mathlib.Core.Path.{_≡_};
 ghost use Rattle.box_number.specs.Table.{holds};
-ghost use Rattle.picture_finish.specs.Whole.{handed};
+ghost use Rattle.picture_rules.specs.Whole.{handed};
 ghost use Rattle.export_rules.specs.FinishReading.{misnumbered, noReading, recordOf};
 ghost use Rattle.export_rules.specs.TwoSteps.{ReadingFinished};
 ghost use Rattle.cuzhantir.specs.Private.Taken.{Taken};
 use crate::numbers::READING_LENGTH;
 use crate::numbers::REFUSED;
-use picture_finish::Finished;
+use picture_rules::Finished;
 use read_record::Jp2;
 use read_record::Palette;
 use read_record::Span;

@@ -9,9 +9,9 @@ use Rattle.box_number.specs.Table.{table}
 use Rattle.box_number.specs.Number.{placed}
 use Rattle.picture_rules.specs.Image.{Image}
 use Rattle.picture_rules.specs.Words.{Handed}
-use Rattle.picture_finish.specs.declared.Finished.{Finished}
-use Rattle.picture_finish.specs.declared.Finished.the-variants.{Planes, Refused}
-use Rattle.picture_finish.specs.Whole.{Demand3, Said, Speaks}
+use Rattle.picture_rules.specs.declared.Finished.{Finished}
+use Rattle.picture_rules.specs.declared.Finished.the-variants.{Planes, Refused}
+use Rattle.picture_rules.specs.Whole.{Demand3, Said, Speaks}
 use Rattle.export_rules.specs.Answers.{doneNumbers, ofFinished, told, AnswerTold}
 use Rattle.export_rules.specs.Rule.{ToldRight}
 

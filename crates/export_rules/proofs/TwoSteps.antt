@@ -14,10 +14,10 @@ use Rattle.read_rules.specs.Alike.{given}
 use Rattle.read_rules.proofs.Definitions.{definitions-free, numbers-within}
 use Rattle.picture_rules.specs.Words.{Handed}
 use Rattle.picture_rules.specs.Finish.{Finishing}
-use Rattle.picture_finish.specs.declared.Finished.{Finished}
-use Rattle.picture_finish.specs.Answers.{Done}
-use Rattle.picture_finish.specs.Whole.{pictured}
-use Rattle.picture_finish.proofs.Wholes.{shows}
+use Rattle.picture_rules.specs.declared.Finished.{Finished}
+use Rattle.picture_rules.specs.Answers.{Done}
+use Rattle.picture_rules.specs.Whole.{pictured}
+use Rattle.picture_rules.proofs.Wholes.{shows}
 use Rattle.export_rules.specs.Numbers.{numbers}
 use Rattle.export_rules.specs.FinishReading.{finishReading}
 use Rattle.export_rules.specs.TwoSteps.{FileOfBytes, ReadingGiven, ReadingShared, TwoSteps, ReadingFinished}

@@ -5,8 +5,8 @@ use mathlib.Core.List.{List, [], _∷_}
 use lib.ListN.{getD}
 use Rattle.box_number.specs.Table.{_=?_, otherwise, _⇒_∣_, table}
 use Rattle.box_number.specs.Number.{placed}
-use Rattle.picture_finish.specs.declared.Finished.{Finished}
-use Rattle.picture_finish.specs.declared.Finished.the-variants as finished
+use Rattle.picture_rules.specs.declared.Finished.{Finished}
+use Rattle.picture_rules.specs.declared.Finished.the-variants as finished
 use Rattle.write_boxes.specs.declared.Written.{Written}
 use Rattle.write_boxes.specs.declared.Written.the-variants as written
 use Rattle.export_rules.specs.Places.{answerKind, answerNumber, answerPlace, answerCount, answerDone, answerRefused}

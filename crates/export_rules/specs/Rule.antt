@@ -4,7 +4,7 @@ use mathlib.Core.List.{List}
 use lib.IntN.{ℤ}
 use lib.ListN.{length}
 use Rattle.picture_rules.specs.Words.{Handed}
-use Rattle.picture_finish.specs.Whole.{Demand3}
+use Rattle.picture_rules.specs.Whole.{Demand3}
 use Rattle.export_rules.specs.Places.{answerLength}
 use Rattle.export_rules.specs.Answers.{told}
 

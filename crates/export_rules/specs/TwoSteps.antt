@@ -10,9 +10,9 @@ use Rattle.read_record.specs.Record.{blank}
 use Rattle.read_file.specs.File.{read, reading}
 use Rattle.picture_rules.specs.Words.{Handed}
 use Rattle.picture_rules.specs.OrderFreedom.{AlikeButOrder}
-use Rattle.picture_finish.specs.declared.Finished.{Finished}
-use Rattle.picture_finish.specs.Answers.{Done}
-use Rattle.picture_finish.specs.Whole.{pictured, Demand3}
+use Rattle.picture_rules.specs.declared.Finished.{Finished}
+use Rattle.picture_rules.specs.Answers.{Done}
+use Rattle.picture_rules.specs.Whole.{pictured, Demand3}
 use Rattle.export_rules.specs.Places.{readingLength}
 use Rattle.export_rules.specs.Numbers.{numbers}
 use Rattle.export_rules.specs.FinishReading.{finishReading}

@@ -16,16 +16,12 @@ use Rattle.picture_order.proofs.Fronts.{reordered-front}
 use Rattle.picture_rules.specs.Image.{Image}
 use Rattle.picture_rules.specs.Channels.{channels}
 use Rattle.picture_rules.specs.Finish.{Finishing, finished, declined, expanded, picture}
-use Rattle.picture_finish.specs.declared.Finished.{Finished}
-use Rattle.picture_finish.specs.declared.Finished.the-variants.{Planes, Refused}
-use Rattle.picture_finish.specs.Answers.{answered, fronted, recordsAfter, samplesAfter, Done}
+use Rattle.picture_rules.specs.declared.Finished.{Finished}
+use Rattle.picture_rules.specs.declared.Finished.the-variants.{Planes, Refused}
+use Rattle.picture_rules.specs.Answers.{answered, fronted, recordsAfter, samplesAfter, Done}
 use Rattle.picture_finish.specs.Private.Parts.{unordered}
+use Rattle.picture_rules.proofs.Wholes.{declined-done}
 use Rattle.picture_finish.proofs.Rooms.{refused-is}
-
--- a refusal leaves both destinations
-pub declined-done : (x : Finishing) {number place : ℕ} (records : List ℕ) (planes : List ℤ) → x ≡ declined number place → Done x (Refused number place) records records planes planes
-unfolding answered recordsAfter samplesAfter
-declined-done x records planes e = record { answer = rw e refl; numbers = rw e refl; samples = rw e refl }
 
 pub refused-done : (x : Finishing) {r : Finished} {number place : ℕ} (records : List ℕ) (planes : List ℤ) → r ≡ answered x → r ≡ Refused number place → Done x (Refused number place) records records planes planes
 refused-done x records planes e d = declined-done x records planes (refused-is x (sym d ∙ e))

@@ -4,4 +4,3 @@ pub mod Rooms
 pub mod Packs
 pub mod Colours
 pub mod Finishes
-pub mod Wholes

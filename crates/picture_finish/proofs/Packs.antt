@@ -26,7 +26,7 @@ use Rattle.picture_planes.specs.Column.{noColumn}
 use Rattle.picture_planes.specs.Plane.{samplesOf}
 use Rattle.picture_planes.proofs.Picks.{map-same}
 use Rattle.box_number.proofs.Placing.{placed-after}
-use Rattle.picture_finish.specs.Answers.{fronted}
+use Rattle.picture_rules.specs.Answers.{fronted}
 use Rattle.picture_finish.proofs.ColumnsOf as of
 use Rattle.picture_finish.specs.Private.Parts.{mappings, recordAt, samplesAt, Packable, Tested, Roomy, unordered}
 

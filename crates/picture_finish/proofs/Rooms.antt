@@ -17,8 +17,8 @@ use Rattle.box_number.proofs.Indices.{decide}
 use Rattle.picture_rules.proofs.Packs.{Within}
 use Rattle.picture_rules.proofs.Mappings.{kept, channels-few, component-inside}
 use Rattle.picture_rules.proofs.Areas.{size-none, size-area}
-use Rattle.picture_finish.specs.declared.Finished.the-variants.{Planes, Refused}
-use Rattle.picture_finish.specs.Answers.{answered}
+use Rattle.picture_rules.specs.declared.Finished.the-variants.{Planes, Refused}
+use Rattle.picture_rules.specs.Answers.{answered}
 use Rattle.picture_finish.specs.Private.Parts.{mappings, Tested, Roomy}
 
 -- a refusal that was answered

@@ -1,3 +1,1 @@
-pub mod Answers
-pub mod Whole
 pub mod Private

@@ -9,7 +9,7 @@ ghost use Rattle.picture_rules.specs.Image.{image, listed, mostComponents, most
 ghost use Rattle.picture_rules.specs.Channels.{mapped, corrected, componentOf, typeBy};
 ghost use Rattle.picture_rules.specs.Samples.{startOf};
 ghost use Rattle.picture_rules.specs.Finish.{expandedFrom};
-ghost use Rattle.picture_finish.specs.Answers.{fronted};
+ghost use Rattle.picture_rules.specs.Answers.{fronted};
 ghost use Rattle.picture_finish.specs.Private.Parts.{mappings, recordAt, samplesAt, Packable, Tested, Roomy, unordered};
 use picture_planes::Column;
 use read_record::Jp2;

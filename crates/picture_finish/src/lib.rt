@@ -12,10 +12,11 @@ ghost use Rattle.picture_rules.specs.Image.{image, mostComponents};
 ghost use Rattle.picture_rules.specs.Handed.{settings};
 ghost use Rattle.picture_rules.specs.Channels.{channels, mapped, corrected};
 ghost use Rattle.picture_rules.specs.Finish.{counted, fitted, finish};
-ghost use Rattle.picture_finish.specs.Answers.{answered, Done};
-ghost use Rattle.picture_finish.specs.Whole.{handed, ReadPicture};
+ghost use Rattle.picture_rules.specs.Answers.{answered, Done};
+ghost use Rattle.picture_rules.specs.Whole.{handed, ReadPicture};
 ghost use Rattle.picture_finish.specs.Private.Parts.{Tested};
 use picture_check::Checked;
+use picture_rules::Finished;
 use read_file::FileAnswer;
 use read_record::Jp2;
 use read_record::Palette;
@@ -24,12 +25,6 @@ use read_record::Span;
 mod channels;
 
 const MOST_SAMPLES: u64 = 4294967294;
-
-// How many planes there are; or document 01's number, with the index or the needed length.
-pub enum Finished {
-    Planes(u32),
-    Refused(u32, u64),
-}
 
 // What the settings leave of the record: with any ignore flag but 0 palette, mappings and definitions count for nothing.
 fn counted(ignore: u32, m: Jp2) -> Jp2

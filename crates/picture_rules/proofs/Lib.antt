@@ -23,3 +23,4 @@ pub mod Demand3
 pub mod Telling
 pub mod Refusals
 pub mod Exactly
+pub mod Wholes

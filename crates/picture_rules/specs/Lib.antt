@@ -18,3 +18,5 @@ pub mod OrderFreedom
 pub mod Boxes
 pub mod FinishingCases
 pub mod Met
+pub mod Answers
+pub mod Whole

@@ -1,3 +1,9 @@
 // The order of a picture's planes: definitions and theorems. The code, `opj_jp2_apply_cdef` of jp2.rs, is in picture_order.
 
 // The finished picture (`opj_jp2_check_color`, `opj_jp2_apply_pclr` and `opj_jp2_apply_color_postprocessing` of jp2.rs): its definitions, and demand 3.
+
+// What finishing answers: how many planes there are; or document 01's number, with the index or the needed length.
+pub enum Finished {
+    Planes(u32),
+    Refused(u32, u64),
+}

@@ -2,8 +2,8 @@
 -- Assumes nothing.
 use borrow.Author.Needs.{needs}
 use Rattle.picture_rules.specs.Finish.{finish}
-use Rattle.picture_finish.specs.Whole.{handed}
-use Rattle.picture_finish.proofs.Colours.{declined-done}
+use Rattle.picture_rules.specs.Whole.{handed}
+use Rattle.picture_rules.proofs.Wholes.{declined-done}
 use Rattle.picture_finish.proofs.Finishes.{entry-refused, entry-passed}
 use Rattle.picture_finish.proofs.opj_jp2_apply_color_postprocessing.Statement.{statement}
 use Rattle.picture_finish.proofs.opj_jp2_apply_color_postprocessing.Tie as tie

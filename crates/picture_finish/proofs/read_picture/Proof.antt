@@ -2,8 +2,8 @@
 -- Assumes nothing.
 use borrow.Author.Needs.{needs}
 use Rattle.picture_rules.specs.Finish.{finish}
-use Rattle.picture_finish.specs.Whole.{handed}
-use Rattle.picture_finish.proofs.Wholes.{reading-refused, reading-on, shows, shows-refused}
+use Rattle.picture_rules.specs.Whole.{handed}
+use Rattle.picture_rules.proofs.Wholes.{reading-refused, reading-on, shows, shows-refused}
 use Rattle.picture_finish.proofs.read_picture.Statement.{statement}
 use Rattle.picture_finish.proofs.read_picture.Tie as tie
 

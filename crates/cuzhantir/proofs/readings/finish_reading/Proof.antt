@@ -5,9 +5,9 @@ use mathlib.Core.Path.{refl, sym, ap, _∙_}
 use mathlib.Core.Bool.{true, false}
 use Rattle.box_number.proofs.Rows.{said}
 use Rattle.picture_rules.specs.Finish.{finish}
-use Rattle.picture_finish.specs.Whole.{handed}
+use Rattle.picture_rules.specs.Whole.{handed}
 use Rattle.export_rules.specs.FinishReading.{noReading}
-use Rattle.picture_finish.proofs.Colours.{declined-done}
+use Rattle.picture_rules.proofs.Wholes.{declined-done}
 use Rattle.export_rules.proofs.FinishReading.{none, refused, on}
 use Rattle.export_rules.proofs.TwoSteps.{finishes}
 use Rattle.cuzhantir.proofs.Accepted.{taken, bytes}

@@ -3,10 +3,10 @@ use Prim.Native.Nat.{ℕ}
 use mathlib.Core.Path.{_≡_}
 use mathlib.Core.List.{List}
 use lib.IntN.{ℤ}
 pub use Rattle.picture_rules.specs.Image.{fronted}
 use Rattle.picture_rules.specs.Finish.{Finishing, finished, declined}
-use Rattle.picture_finish.specs.declared.Finished.{Finished}
-use Rattle.picture_finish.specs.declared.Finished.the-variants.{Planes, Refused}
+use Rattle.picture_rules.specs.declared.Finished.{Finished}
+use Rattle.picture_rules.specs.declared.Finished.the-variants.{Planes, Refused}
 
 -- how many planes, or document 01's number with its index or needed length
 unfoldable pub answered : Finishing → Finished

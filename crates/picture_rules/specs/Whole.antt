@@ -8,16 +8,16 @@ use Rattle.read_record.specs.declared.Jp2.{Jp2}
 use Rattle.read_record.specs.Answer.{Result, accepted, refused}
 use Rattle.read_file.specs.File.{read}
 use Rattle.read_rules.specs.Alike.{given}
 use Rattle.picture_rules.specs.Image.{Image, image}
 use Rattle.picture_rules.specs.Finish.{Finishing, declined, counted, finish}
 use Rattle.picture_rules.specs.Handed.{Handed, settings}
 use Rattle.picture_rules.specs.Words.{Defined, Clear}
 use Rattle.picture_rules.specs.PictureRule.{RightPlanes}
 use Rattle.picture_rules.specs.EveryPicture.{EveryPlane}
 use Rattle.picture_rules.specs.OrderFreedom.{withFile, AlikeButOrder, SameDestinations}
-use Rattle.picture_finish.specs.declared.Finished.{Finished}
-use Rattle.picture_finish.specs.declared.Finished.the-variants.{Planes}
-use Rattle.picture_finish.specs.Answers.{answered, recordsAfter, samplesAfter, Done}
+use Rattle.picture_rules.specs.declared.Finished.{Finished}
+use Rattle.picture_rules.specs.declared.Finished.the-variants.{Planes}
+use Rattle.picture_rules.specs.Answers.{answered, recordsAfter, samplesAfter, Done}
 
 -- all inputs of finishing; of the destinations their lengths
 abbrev pub handed : List ℕ → ℕ → List ℕ → ℕ → List ℤ → List ℕ → List ℤ → Handed

@@ -16,23 +16,27 @@ use Rattle.read_file.specs.declared.Reading.{Reading}
 use Rattle.read_file.specs.File.{Walked, codestream, ended, fileRefused, read, reading}
 use Rattle.read_file.proofs.FileAnswer.{the-type}
 use Rattle.read_rules.specs.Alike.{given}
 use Rattle.picture_rules.specs.Image.{Image, image}
 use Rattle.picture_rules.specs.Finish.{Finishing, finished, declined, counted, finish}
 use Rattle.picture_rules.specs.Handed.{Handed}
 use Rattle.picture_rules.specs.Words.{Accepted}
 use Rattle.picture_rules.specs.PictureRule.{RightPlanes}
 use Rattle.picture_rules.specs.EveryPicture.{EveryPlane}
 use Rattle.picture_rules.specs.OrderFreedom.{withFile, AlikeButOrder, SameDestinations}
 use Rattle.picture_rules.proofs.Orders.{either-first}
 use Rattle.picture_rules.proofs.Destinations.{right-in-place, every-in-place, same-in-place}
 use Rattle.picture_rules.proofs.Demand3.{order-freedom}
-use Rattle.picture_finish.specs.declared.Finished.{Finished}
-use Rattle.picture_finish.specs.declared.Finished.the-variants.{Planes, Refused}
-use Rattle.picture_finish.specs.Answers.{answered, fronted, recordsAfter, samplesAfter, Done}
+use Rattle.picture_rules.specs.declared.Finished.{Finished}
+use Rattle.picture_rules.specs.declared.Finished.the-variants.{Planes, Refused}
+use Rattle.picture_rules.specs.Answers.{answered, fronted, recordsAfter, samplesAfter, Done}
 use Rattle.picture_rules.specs.Met.{otherwise-turned, directFile, directExample, directPlanes, palettedFile, paletted, palettedPlanes, Met}
 use Rattle.picture_rules.proofs.Mets.{direct-met, palette-met}
-use Rattle.picture_finish.proofs.Colours.{declined-done}
-use Rattle.picture_finish.specs.Whole.{pictured, PictureRight, PictureFilled, PictureOrderFree, ReadPicture, Speaks}
+use Rattle.picture_rules.specs.Whole.{pictured, PictureRight, PictureFilled, PictureOrderFree, ReadPicture, Speaks}
+
+-- a refusal leaves both destinations
+pub declined-done : (x : Finishing) {number place : ℕ} (records : List ℕ) (planes : List ℤ) → x ≡ declined number place → Done x (Refused number place) records records planes planes
+unfolding answered recordsAfter samplesAfter
+declined-done x records planes e = record { answer = rw e refl; numbers = rw e refl; samples = rw e refl }
 
 -- the cases of an answer that refuse nothing: codestream and ended
 abbrev pub reads : List ℕ
