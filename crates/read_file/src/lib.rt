@@ -222,7 +222,7 @@ fn read_whole(c: &[u8], at: u32, h: Jp2BoxHeader, k: Jp2) -> Outcome
     ensures { λ r. ⌜ r ≡ answer (r .jp2) (outer (firstBox at (now (c .entry))) k) ⌝ }
 {
     let head = h.header_length as usize;
-    let end = head + h.content_length() as usize;
+    let end = (h.header_length + h.content_length()) as usize;
     let content = &c[head..end];
     let start = at + h.header_length;
     let ty = h.ty;

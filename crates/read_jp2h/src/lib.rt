@@ -114,7 +114,7 @@ fn read_item(b: Item, c: &[u8], at: u32, k: Jp2) -> Outcome
 {
     let h = b.header;
     let head = h.header_length as usize;
-    let end = head + h.content_length() as usize;
+    let end = (h.header_length + h.content_length()) as usize;
     let content = &c[head..end];
     let start = at + h.header_length;
     let ty = h.ty;

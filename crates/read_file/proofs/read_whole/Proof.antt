@@ -18,31 +18,31 @@ cast-head c = search needs
 content-length-requires : tie.Need-content-length-requires
 content-length-requires c κs = tt
 
-cast-end : tie.Need-cast-end
-cast-end c = search needs
-
 add-end : tie.Need-add-end
-add-end c = search needs
+add-end c = let p = c .before .before .before .before .pre in omega (arith, c .before .content-length .ensures, heads-head p, heads-long p, p .least)
+
+cast-end : tie.Need-cast-end
+cast-end c = let p = c .before .before .before .before .pre in omega (arith, c .before .content-length .ensures, heads-head p, heads-long p, p .least)
 
 sub-content : tie.Need-sub-content
-sub-content c = let p = c .before .before .before .pre in omega (arith, c .content-length .ensures, heads-head p, heads-long p, p .least, p .most)
+sub-content c = let p = c .before .before .before .before .pre in omega (arith, c .before .content-length .ensures, heads-head p, heads-long p, p .least, p .most)
 
 part-content-start : tie.Need-part-content-start
-part-content-start c = let p = c .before .before .before .pre in omega (arith, c .content-length .ensures, heads-head p, heads-long p, p .least, p .most)
+part-content-start c = let p = c .before .before .before .before .pre in omega (arith, c .before .content-length .ensures, heads-head p, heads-long p, p .least, p .most)
 
 part-content-end : tie.Need-part-content-end
-part-content-end c = let p = c .before .before .before .pre in omega (arith, c .content-length .ensures, heads-head p, heads-long p, p .least, p .most)
+part-content-end c = let p = c .before .before .before .before .pre in omega (arith, c .before .content-length .ensures, heads-head p, heads-long p, p .least, p .most)
 
 add-start : tie.Need-add-start
-add-start c = let p = c .before .before .before .before .before .pre in omega (arith, heads-head p, p .least, p .most, p .room)
+add-start c = let p = c .before .before .before .before .before .before .pre in omega (arith, heads-head p, p .least, p .most, p .room)
 
 read-outer-requires : tie.Need-read-outer-requires
 unfolding part
-read-outer-requires c κs = let a = c .before .before .before .before .before .args in let p = c .before .before .before .before .before .pre in rw (part-content (a .c .now) (a .h) (c .before .before .content-length .ensures)) (omega (arith, part-most (a .c .now) (a .h .«header_length») (a .h .length), heads-head p, heads-long p, p .least, p .most, p .room))
+read-outer-requires c κs = let a = c .before .before .before .before .before .before .args in let p = c .before .before .before .before .before .before .pre in rw (part-content (a .c .now) (a .h) (c .before .before .before .content-length .ensures)) (omega (arith, part-most (a .c .now) (a .h .«header_length») (a .h .length), heads-head p, heads-long p, p .least, p .most, p .room))
 
 returns : tie.Need-returns
 unfolding part
-returns c = let a = c .before .before .before .before .before .before .args in freed _ _ _ (c .read-outer .ensures) (ap (λ (x : Box). outer x (a .k)) (whole-box (c .before .before .before .before .before .before .pre) (part-content (a .c .now) (a .h) (c .before .before .before .content-length .ensures))))
+returns c = let a = c .before .before .before .before .before .before .before .args in freed _ _ _ (c .read-outer .ensures) (ap (λ (x : Box). outer x (a .k)) (whole-box (c .before .before .before .before .before .before .before .pre) (part-content (a .c .now) (a .h) (c .before .before .before .before .content-length .ensures))))
 
 pub read-whole-spec : {M : Type 1} → statement M
 read-whole-spec =
@@ -50,8 +50,8 @@ read-whole-spec =
     (tie.spec
     cast-head
     content-length-requires
-    cast-end
     add-end
+    cast-end
     sub-content
     part-content-start
     part-content-end

@@ -18,20 +18,20 @@ cast-head c = search needs
 content-length-requires : tie.Need-content-length-requires
 content-length-requires c κs = tt
 
-cast-end : tie.Need-cast-end
-cast-end c = search needs
-
 add-end : tie.Need-add-end
-add-end c = search needs
+add-end c = omega (arith, c .before .content-length .ensures)
+
+cast-end : tie.Need-cast-end
+cast-end c = omega (arith, c .before .content-length .ensures)
 
 sub-content : tie.Need-sub-content
-sub-content c = omega (arith, c .content-length .ensures)
+sub-content c = omega (arith, c .before .content-length .ensures)
 
 part-content-start : tie.Need-part-content-start
-part-content-start c = omega (arith, c .content-length .ensures)
+part-content-start c = omega (arith, c .before .content-length .ensures)
 
 part-content-end : tie.Need-part-content-end
-part-content-end c = omega (arith, c .content-length .ensures)
+part-content-end c = omega (arith, c .before .content-length .ensures)
 
 add-start : tie.Need-add-start
 add-start c = search needs
@@ -41,7 +41,7 @@ read-content-requires c κs = tt
 
 returns : tie.Need-returns
 unfolding part
-returns c = let a = c .before .before .before .before .before .before .before .args in let h = a .b .header in told _ _ _ (c .read-content .ensures) (ap (λ (x : List ℕ). reader (h .ty) (a .b .place) (a .at + h .«header_length») x (a .k)) (part-content (a .c .now) h (c .before .before .before .content-length .ensures)))
+returns c = let a = c .before .before .before .before .before .before .before .before .args in let h = a .b .header in told _ _ _ (c .read-content .ensures) (ap (λ (x : List ℕ). reader (h .ty) (a .b .place) (a .at + h .«header_length») x (a .k)) (part-content (a .c .now) h (c .before .before .before .before .content-length .ensures)))
 
 pub read-item-spec : {M : Type 1} → statement M
 read-item-spec =
@@ -49,8 +49,8 @@ read-item-spec =
     (tie.spec
     cast-head
     content-length-requires
-    cast-end
     add-end
+    cast-end
     sub-content
     part-content-start
     part-content-end
