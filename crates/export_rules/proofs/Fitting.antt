@@ -9,7 +9,7 @@ use Rattle.read_record.specs.Answer.{accepted}
 use Rattle.read_file.specs.File.{read}
 use Rattle.read_rules.specs.Alike.{given}
 use Rattle.read_rules.proofs.Parts.{Lies}
-use Rattle.read_rules.proofs.Changes.{Change, marked, typed, sized, deep, tinted, profiled, indexed, mapped, defined, Law}
+use Rattle.read_rules.proofs.Changes.{Change, marked, typed, sized, deep, tinted, cielab, profiled, indexed, mapped, defined, Law}
 use Rattle.read_rules.proofs.Definitions.{read-moves}
 use Rattle.read_rules.proofs.Again.{number-most}
 use Rattle.export_rules.specs.FinishReading.{largest}
@@ -27,6 +27,7 @@ module _ (f : List ℕ) (b : FileOfBytes f) (start : ℕ) (c : List ℕ) (j : Jp
   change m (sized i h) p = record { entries = p .entries; columns = p .columns }
   change m deep p = record { entries = p .entries; columns = p .columns }
   change m (tinted k g) p = record { entries = p .entries; columns = p .columns }
+  change m (cielab k g) p = record { entries = p .entries; columns = p .columns }
   change m (profiled k g h) p = record { entries = p .entries; columns = p .columns }
   change m (indexed z ne most npc room) p = record { entries = omega arith; columns = omega (arith, number-most lies 2 1 b (omega arith)) }
   change m (mapped some h) p = record { entries = p .entries; columns = p .columns }
