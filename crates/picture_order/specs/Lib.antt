@@ -1,4 +1,5 @@
 pub mod Flat
+pub mod Cases
 pub mod Comps
 pub mod Exact
 pub mod Agree
