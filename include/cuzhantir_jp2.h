@@ -228,6 +228,10 @@ enum cuzhantir_bytes {
  * the rest, and a shorter one is left alone: CUZHANTIR_DESTINATION_TOO_SHORT. The codestream itself is not looked at.
  * Returns 0 for CUZHANTIR_READING_CODESTREAM and CUZHANTIR_READING_ENDED, else the number of the refusal, 1 to 24. A
  * codestream may be reached without an ihdr, where another box was skipped before: CUZHANTIR_READING_NUMCOMPS is then 0.
+ *
+ * A file that was broken off, of which the whole reaches its codestream, gives the numbers of the whole once the header of
+ * the codestream's box is there. Before that it gives CUZHANTIR_READING_ENDED, with the record of the boxes that are wholly
+ * there (its state may have the 31 low bits besides), or CUZHANTIR_CONTENT_PAST_FILE at the box that is cut; and no other number.
  */
 uint32_t cuzhantir_read(const uint8_t *file, size_t file_len, uint64_t *reading, size_t reading_len);
 

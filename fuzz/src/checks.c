@@ -104,3 +104,31 @@ void check_read(const struct model_file *f, enum side side, uint64_t reading_len
     check_returned(returned, 30);
     check_holds(&reading, NULL, 0, "reading");
 }
+
+// The numbers that cuzhantir_read gives, which keep their rules.
+static void ask_reading(const struct model_file *f, uint64_t given[READING_NUMBERS])
+{
+    struct lent reading = lend_blank(READING_LIST, AT_END, sizeof *given, READING_NUMBERS * sizeof *given);
+    struct words w = {0};
+    add_list(&w, f->bytes, f->length);
+    add_list(&w, reading.list, READING_NUMBERS);
+    uint32_t returned = call(cuzhantir_read, &w);
+    memcpy(given, reading.own, READING_NUMBERS * sizeof *given);
+    check_returned(returned, given[KIND] == REFUSED ? given[VALUE] : 0);
+    check_reading(f, given);
+}
+
+void check_beginning(const struct model_file *f, uint64_t length)
+{
+    uint64_t whole[READING_NUMBERS], part[READING_NUMBERS];
+    ask_reading(f, whole);
+    if (whole[KIND] != CODESTREAM)
+        return;
+    struct model_file beginning = {f->bytes, length};
+    ask_reading(&beginning, part);
+    int same = memcmp(whole, part, sizeof whole) == 0;
+    if (same != (whole[VALUE] <= length))
+        finding("a beginning of %" PRIu64 " bytes, and a codestream at %" PRIu64 ": the same numbers %d", length, whole[VALUE], same);
+    if (!same && part[KIND] != ENDED && (part[KIND] != REFUSED || part[VALUE] != 4))
+        finding("a beginning of %" PRIu64 " bytes gives kind %" PRIu64 " and %" PRIu64, length, part[KIND], part[VALUE]);
+}

@@ -33,6 +33,14 @@ static void read_lent(const struct file *f, uint8_t choice)
     note_reading(expected);
 }
 
+// A beginning of the file, in the same memory.
+static void read_beginning(const struct file *f, uint32_t cut)
+{
+    struct lent file = lend(FILE_LIST, AT_START, 1, f->bytes, f->length);
+    struct model_file m = {file.list, f->length};
+    check_beginning(&m, cut % (f->length + 1));
+}
+
 // The file at the front of a list of about 4 GiB, with zeros behind it.
 static void read_huge(const struct file *f, uint8_t choice, uint32_t less)
 {
@@ -57,10 +65,12 @@ void run_target(struct input in)
     uint8_t form = take_u8(&in), choice = take_u8(&in);
     uint32_t less = form & 64 ? take_u32(&in) >> (choice >> 3) : 0;
     struct file f = make_file(in, form % FORMS);
-    if (form & 64)
+    if (form & 64) {
         read_huge(&f, choice, less);
-    else
+    } else {
         read_lent(&f, choice);
+        read_beginning(&f, (uint32_t)form << 8 | choice);
+    }
     if (choice == 0)
         read_untouchable((uint8_t)in.left);
 }

@@ -30,6 +30,7 @@ uint32_t right_cuzhantir_write(WRITE_PARAMETERS);
 enum {
     NOTHING, READ_PAST_END, READ_BEFORE_START, NUMBER_BEHIND, INVENTED_NUMBER, PLACE_FURTHER, HEIGHT_FOR_WIDTH, OTHER_RETURN,
     SHORT_LIST_WRITTEN, REGISTER_LOST, STACK_TOO_DEEP, LONG_FILE_TOUCHED, REMEMBERS, NEVER_RETURNS, TWELVE_COLUMNS,
+    CUT_REFUSED_BY_CONTENT, CUT_CODESTREAM_LOST,
     RECORD_ON_REFUSAL, SAMPLE_BEHIND, PLANES_EXCHANGED, NEEDED_LESS, FLAG_FORGOTTEN, READING_TRUSTED, UPPER_HALF, SAMPLE_LENT_CHANGED,
     LAST_SAMPLE, SAMPLE_PAST_END, MARK_KEPT, FIVE_PLANES,
     BYTE_PAST_END, BYTE_ON_REFUSAL, DEPTH_CHANGED, BYTES_NEEDED_LESS, INVENTED_WRITING, DIRECTION_LEFT, SIX_COMPONENTS
@@ -86,6 +87,25 @@ static uint32_t spoil_reading(uint32_t returned, uint64_t *reading, size_t readi
     return returned;
 }
 
+// A beginning of the file of the call before, which reached its codestream: refused by a content, or ended behind the header.
+static uint32_t spoil_beginning(uint32_t returned, READ_PARAMETERS)
+{
+    static const uint8_t *whole;
+    static size_t whole_len;
+    if (reading_len < READING_NUMBERS)
+        return returned;
+    int cut = file == whole && file_len < whole_len;
+    whole = reading[KIND] == CODESTREAM ? file : NULL;
+    whole_len = file_len;
+    if (WRONG == CUT_REFUSED_BY_CONTENT && cut && returned == 4)
+        reading[VALUE] = returned = 10;
+    if (WRONG == CUT_CODESTREAM_LOST && cut && reading[KIND] == CODESTREAM) {
+        reading[KIND] = ENDED;
+        reading[VALUE] = 0;
+    }
+    return returned;
+}
+
 #ifdef LOSE
 // r13 is one of the registers that a callee has to keep.
 __attribute__((naked)) uint32_t cuzhantir_read(READ_PARAMETERS)
@@ -100,7 +120,7 @@ uint32_t cuzhantir_read(READ_PARAMETERS)
     uint32_t r = spoil_reading(right_cuzhantir_read(file, file_len, reading, reading_len), reading, reading_len);
     if (WRONG == REMEMBERS)
         spoil_call(file, file_len, reading, reading_len);
-    return r;
+    return spoil_beginning(r, file, file_len, reading, reading_len);
 }
 #endif
 

@@ -4,7 +4,8 @@ mod common;
 
 use common::sample;
 use cuzhantir_jp2::{
-    read, Asoc, Definition, Depth, FileType, ImageHeader, Mapping, MappingType, Method, Status, Typ,
+    read, Asoc, Cause, Definition, Depth, FileType, ImageHeader, Mapping, MappingType, Method,
+    Status, Typ,
 };
 
 /// Name, components, depth byte, EnumCS, codestream's offset, how many definitions, palette columns.
@@ -40,6 +41,29 @@ fn every_sample_is_in_the_table() {
     found.sort();
     listed.sort_unstable();
     assert_eq!(found, listed);
+}
+
+/// Request R-1: signature, file type and `jp2h` are at 0, 12 and 32 in each sample, and the codestream's box is behind them.
+#[test]
+fn each_sample_that_is_broken_off_is_read_as_far_as_it_goes() {
+    for (name, _, _, _, codestream, _, _) in SAMPLES {
+        let file = sample(name);
+        let whole = *read(&file).expect(name).numbers();
+        let boxes = [0, 12, 32, codestream - 8];
+        for length in 0..=file.len() {
+            let cut = boxes.iter().rfind(|place| **place <= length);
+            let in_header = cut.is_some_and(|place| length < place + 8);
+            match read(&file[..length]) {
+                Ok(header) if length >= codestream => assert_eq!(*header.numbers(), whole),
+                Ok(header) => assert!(in_header && header.codestream().is_none(), "{name} {length}"),
+                Err(refused) => {
+                    let asked = (Cause::ContentPastFile, cut.map(|place| *place as u64));
+                    assert_eq!((refused.cause, Some(refused.place)), asked, "{name} {length}");
+                    assert!(!in_header && length < codestream, "{name} {length}");
+                }
+            }
+        }
+    }
 }
 
 #[test]

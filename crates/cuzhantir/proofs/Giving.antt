@@ -7,9 +7,9 @@ use mathlib.Core.List.{List, _++_}
 use lib.ListN.{length, length-append}
 use Rattle.box_number.specs.Number.{placed}
 use Rattle.box_number.proofs.Pieces.{first, piece}
-use Rattle.read_file.specs.declared.FileAnswer.{FileAnswer}
-use Rattle.read_file.specs.declared.FileAnswer.the-variants.{Codestream, Ended, Refused}
-use Rattle.read_file.specs.declared.Reading.{Reading}
+use Rattle.read_rules.specs.declared.FileAnswer.{FileAnswer}
+use Rattle.read_rules.specs.declared.FileAnswer.the-variants.{Codestream, Ended, Refused}
+use Rattle.read_rules.specs.declared.Reading.{Reading}
 use Rattle.export_rules.specs.Numbers.{ofAnswer, ofImage, ofColour, ofFileType, ofLists, ofStatus, firstNumbers, lastNumbers, numbers}
 
 pub length-answer : (a : FileAnswer) → length (ofAnswer a) ≡ 3

@@ -14,7 +14,8 @@ ghost use Rattle.export_rules.specs.Answers.{ofFinished, ofWritten, returned};
 ghost use Rattle.export_rules.specs.FinishReading.{finishReading};
 ghost use Rattle.export_rules.specs.TwoSteps.{ReadingOf};
 ghost use Rattle.export_rules.specs.Rule.{ToldRight};
-ghost use Rattle.read_file.specs.File as jp2;
+ghost use Rattle.export_rules.specs.CutTold.{CutTold};
+ghost use Rattle.read_rules.specs.File as jp2;
 ghost use Rattle.write_boxes.specs.Answers as written;
 
 mod answers;
@@ -29,10 +30,12 @@ use numbers::READING_LENGTH;
 const TOO_SHORT: u32 = 30;
 
 // Reads a file and gives the 44 numbers of its reading. Where reading has no room for them nothing is done.
+// The last clause is request R-1: where the file was broken off, the numbers are right of the whole.
 #[no_mangle]
 pub extern "C" fn cuzhantir_read(file: &[u8], reading: &mut [u64]) -> u32
     ensures { λ r. ⌜ r ≡ room readingLength (now (reading .entry)) 30 (refusalNumber ((jp2.reading blank (jp2.read (now (file .entry)))) .answer)) ⌝ }
     ensures { λ _. ⌜ now (reading .exit) ≡ room readingLength (now (reading .entry)) (now (reading .entry)) (placed (now (reading .entry)) 0 (numbers (jp2.reading blank (jp2.read (now (file .entry)))))) ⌝ }
+    ensures { λ _. ⌜ CutTold (now (file .entry)) (now (reading .entry)) (now (reading .exit)) ⌝ }
 {
     if reading.len() < READING_LENGTH {
         return TOO_SHORT;

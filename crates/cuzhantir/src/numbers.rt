@@ -5,12 +5,12 @@ ghost use mathlib.Core.List.{_++_};
 ghost use lib.ListN.{length};
 ghost use Rattle.box_number.specs.Number.{placed};
 ghost use Rattle.export_rules.specs.Numbers.{ofAnswer, ofImage, ofColour, ofFileType, ofLists, ofStatus, refusalNumber};
-use read_file::FileAnswer;
 use read_record::Colour;
 use read_record::FileType;
 use read_record::Image;
 use read_record::Lists;
 use read_record::Status;
+use read_rules::FileAnswer;
 
 // How many numbers a reading has.
 pub const READING_LENGTH: usize = 44;

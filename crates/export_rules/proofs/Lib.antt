@@ -5,3 +5,4 @@ pub mod FinishReading
 pub mod Fitting
 pub mod TwoSteps
 pub mod Rule
+pub mod CutTold

@@ -2,9 +2,9 @@
 -- Assumes nothing.
 use mathlib.Core.Path.{refl}
 use Rattle.read_record.specs.declared.Jp2.{Jp2}
-use Rattle.read_file.specs.declared.FileAnswer.{FileAnswer}
-use Rattle.read_file.specs.declared.FileAnswer.the-variants.{Codestream, Ended, Refused}
-use Rattle.read_file.specs.declared.Reading.{Reading}
+use Rattle.read_rules.specs.declared.FileAnswer.{FileAnswer}
+use Rattle.read_rules.specs.declared.FileAnswer.the-variants.{Codestream, Ended, Refused}
+use Rattle.read_rules.specs.declared.Reading.{Reading}
 use Rattle.export_rules.specs.Numbers.{PlacesRight}
 
 pub places-right : (r : Reading) → PlacesRight r

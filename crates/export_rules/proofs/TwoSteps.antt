@@ -9,7 +9,7 @@ use lib.ListN.{take, drop, length, take-append-drop}
 use lib.Seq.{take-append-seam}
 use Rattle.box_number.specs.Number.{placed}
 use Rattle.read_record.specs.Record.{blank}
-use Rattle.read_file.specs.File.{Walked, codestream, ended, fileRefused, read, reading}
+use Rattle.read_rules.specs.File.{Walked, codestream, ended, fileRefused, read, reading}
 use Rattle.read_rules.specs.Alike.{given}
 use Rattle.read_rules.proofs.Definitions.{definitions-free, numbers-within}
 use Rattle.picture_rules.specs.Words.{Handed}

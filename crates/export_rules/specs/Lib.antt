@@ -5,3 +5,4 @@ pub mod Room
 pub mod FinishReading
 pub mod TwoSteps
 pub mod Rule
+pub mod CutTold

@@ -9,9 +9,9 @@ use Rattle.read_record.specs.declared.FileType.{FileType}
 use Rattle.read_record.specs.declared.Lists.{Lists}
 use Rattle.read_record.specs.declared.Status.{Status}
 use Rattle.read_record.specs.declared.Jp2.{Jp2}
-use Rattle.read_file.specs.declared.FileAnswer.{FileAnswer}
-use Rattle.read_file.specs.declared.FileAnswer.the-variants.{Codestream, Ended, Refused}
-use Rattle.read_file.specs.declared.Reading.{Reading}
+use Rattle.read_rules.specs.declared.FileAnswer.{FileAnswer}
+use Rattle.read_rules.specs.declared.FileAnswer.the-variants.{Codestream, Ended, Refused}
+use Rattle.read_rules.specs.declared.Reading.{Reading}
 use Rattle.export_rules.specs.Places.{kind, value, place, pclrPlace, pclrEntries, pclrColumns, cmapPlace, cmapCount, cdefPlace, cdefCount, readingLength, readingCodestream, readingEnded, readingRefused}
 
 -- 0 to 2: 0 and the codestream's offset; 1 for "ended"; 2, document 01's number and the place

@@ -7,7 +7,7 @@ use lib.ListN.{getD, take}
 use Rattle.box_number.specs.Number.{placed}
 use Rattle.read_record.specs.declared.Jp2.{Jp2}
 use Rattle.read_record.specs.Record.{blank}
-use Rattle.read_file.specs.File.{read, reading}
+use Rattle.read_rules.specs.File.{read, reading}
 use Rattle.picture_rules.specs.Words.{Handed}
 use Rattle.picture_rules.specs.OrderFreedom.{AlikeButOrder}
 use Rattle.picture_rules.specs.declared.Finished.{Finished}

@@ -9,8 +9,6 @@ use crate::say::note;
 use crate::say::pair;
 use crate::say::text;
 use crate::say::word;
-use read_file::FileAnswer;
-use read_file::Reading;
 use read_record::Colour;
 use read_record::FileType;
 use read_record::Image;
@@ -18,6 +16,8 @@ use read_record::Jp2;
 use read_record::Lab;
 use read_record::Palette;
 use read_record::Span;
+use read_rules::FileAnswer;
+use read_rules::Reading;
 
 pub(crate) fn reading(json: bool, name: &[u8], file: &[u8], r: Reading) {
     text(json, b"|{\"file\":\"");

@@ -1,6 +1,6 @@
 -- The one walk of every function `fn lend_f(s: &[u8], j: T) -> G { let mut k = j; let a = lent::f(s, &mut k); G(a, k) }`, whatever the record T, the answer S and the struct G of both are (`Whole`, `Joined`).
--- `F` is what is answered and `key` the key of the function over a lent record. The record is in a local, which is lent for a lifetime that is made for the call, and comes back. That of Lend.antt with two parameters in place of four. Assumes nothing.
-use mathlib.Core.Path.{_≡_, refl, ap}
+-- `F` is what is promised and `key` the key of the function over a lent record. The record is in a local, which is lent for a lifetime that is made for the call, and comes back. That of Lend.antt with two parameters in place of four. Assumes nothing.
+use mathlib.Core.Path.{refl, ap}
 use Prim.Native.Nat.{ℕ}
 use mathlib.Core.List.{[], _∷_, List}
 use lib.ListN.{length}
@@ -84,8 +84,8 @@ module _ {S T : Whole} (G : Joined S T) (F : Meaning G) (key : Name) {M : Type 1
   abbrev passed : List Val
   passed = vs ∷ T .val h ∷ []
 
-  abbrev found : G .Denot
-  found = F (s .now) h
+  abbrev Found : G .Denot → Type 0
+  Found r = F (s .now) h r
 
   abbrev Post : Val → SProp 𝓤
   Post = walkOf 𝓤 H A (lending G) (stayed G) (core-clauses G F 𝓤) .post (((κ, tt), (q, tt), tt, y, us), tt)
@@ -119,9 +119,9 @@ module _ {S T : Whole} (G : Joined S T) (F : Meaning G) (key : Name) {M : Type 1
     Last = Unit {0} × (T .Denot × Unit {0})
 
     abbrev Left : S .Denot → Last → Type 0
-    Left r zs = G .join r (zs .1 .0) ≡ found
+    Left r zs = Found (G .join r (zs .1 .0))
 
-  exits : (g : T .Denot) (r : S .Denot) → G .join r g ≡ found → Is (joinedRow G) (G .join r g) (pairVal S T r g ∷ [])
+  exits : (g : T .Denot) (r : S .Denot) → Found (G .join r g) → Is (joinedRow G) (G .join r g) (pairVal S T r g ∷ [])
       → ent 𝓤 (⋆ 𝓤 H A (‵ ftrue ∷ ‵ (flft κ q) ∷ [])) (Post (pairVal S T r g))
   exits g r e is =
       qed W (‵ ftrue ∷ ‵ (flft κ q) ∷ []) ∵

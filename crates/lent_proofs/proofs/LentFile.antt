@@ -1,5 +1,5 @@
 -- The walk of `fn f(s: &[u8], j: &mut T) -> S { let r = core::f(s, *j); *j = r.1; r.0 }`: that of Lent.antt with two parameters in place of four. Assumes nothing.
-use mathlib.Core.Path.{_≡_, refl, ap, _∙_}
+use mathlib.Core.Path.{refl, sym, ap, subst}
 use Prim.Native.Nat.{ℕ}
 use mathlib.Core.List.{[], _∷_, List}
 use lib.ListN.{length}
@@ -50,18 +50,18 @@ abbrev stayed : (S T : Whole) → Stays (lent S T .signature .params) (lent S T 
 stayed S T = (stay-dropped content-slot yes, (stay-ref (1 ∷ []) tt (plain (λ _. row T)), tt))
 
 module _ {S T : Whole} (G : Joined S T) where
-  -- what the core answers to its arguments
-  abbrev pub Meaning : Type 0
-  Meaning = List ℕ → T .Denot → G .Denot
+  -- what the core promises of its arguments and its answer
+  abbrev pub Meaning : Type 1
+  Meaning = List ℕ → T .Denot → G .Denot → Type 0
 
   abbrev pub core-clauses : Meaning → {M : Type 1} (𝓤 : URA M) → Clauses 𝓤 (core G)
-  core-clauses F 𝓤 κs a = record { ghost = Unit {0}; requires = λ _. emp 𝓤; ensures = λ _ r _. fact 𝓤 (r ≡ F (now (a .0)) (a .1 .0)) }
+  core-clauses F 𝓤 κs a = record { ghost = Unit {0}; requires = λ _. emp 𝓤; ensures = λ _ r _. fact 𝓤 (F (now (a .0)) (a .1 .0) r) }
 
   abbrev pub Core : Meaning → {M : Type 1} (𝓤 : URA M) (H : Heap 𝓤) (A : Atoms 𝓤) → Contract 𝓤
   Core F 𝓤 H A = tripleOf 𝓤 H A (core G .signature) (closing 𝓤 H A (core G) (core-clauses F 𝓤))
 
   abbrev pub lent-clauses : Meaning → {M : Type 1} (𝓤 : URA M) → Clauses 𝓤 (lent S T)
-  lent-clauses F 𝓤 κs a = record { ghost = Unit {0}; requires = λ _. emp 𝓤; ensures = λ _ r e. fact 𝓤 (G .join r (now (e .1 .0)) ≡ F (now (a .0)) (now (a .1 .0))) }
+  lent-clauses F 𝓤 κs a = record { ghost = Unit {0}; requires = λ _. emp 𝓤; ensures = λ _ r e. fact 𝓤 (F (now (a .0)) (now (a .1 .0)) (G .join r (now (e .1 .0)))) }
 
   abbrev pub function : Name → Fn
   function key = record {
@@ -100,8 +100,8 @@ module _ {S T : Whole} (G : Joined S T) (F : Meaning G) (key : Name) {M : Type 1
   abbrev passed : List Val
   passed = vs ∷ vptr b o ∷ []
 
-  abbrev found : G .Denot
-  found = F (s .now) h
+  abbrev Found : G .Denot → Type 0
+  Found r = F (s .now) h r
 
   abbrev Post : Val → SProp 𝓤
   Post = walkOf 𝓤 H A (lent S T) (stayed S T) (lent-clauses G F 𝓤) .post (((κ, (κ′, tt)), (q, (q′, tt)), tt, x, at), tt)
@@ -117,15 +117,15 @@ module _ {S T : Whole} (G : Joined S T) (F : Meaning G) (key : Name) {M : Type 1
       qed W ((‵ (flft κ q) ⊛ ‵ ftrue) ∷ ‵ (row T .own h (T .val h ∷ [])) ∷ ‵ ftrue ∷ ‵ slice-own ∷ []) ∵
       move ! (1 ∷ 2 ∷ []) $ fjoin ! $ move ! (2 ∷ 0 ∷ []) $ fjoin ! $ move ! (1 ∷ 0 ∷ []) $ join ! $ frame ! $ done !
 
-  said : (r : G .Denot) → ent 𝓤 (ensured 𝓤 H A (core G) (core-clauses G F 𝓤) (κ, tt) y tt r) (fact 𝓤 (r ≡ found))
-  said r = exE 𝓤 _ (λ ws. snd∗ 𝓤 (sem 𝓤 H A (lasts (core G) (κ, tt) y ws)) (fact 𝓤 (r ≡ found)))
+  said : (r : G .Denot) → ent 𝓤 (ensured 𝓤 H A (core G) (core-clauses G F 𝓤) (κ, tt) y tt r) (fact 𝓤 (Found r))
+  said r = exE 𝓤 _ (λ ws. snd∗ 𝓤 (sem 𝓤 H A (lasts (core G) (κ, tt) y ws)) (fact 𝓤 (Found r)))
 
-  exits : (r : G .Denot) → r ≡ found → Is (row S) (G .first r) (S .val (G .first r) ∷ [])
+  exits : (r : G .Denot) → Found r → Is (row S) (G .first r) (S .val (G .first r) ∷ [])
       → ent 𝓤 (⋆ 𝓤 H A (‵ (fobs γ (row T .coded .code (G .second r))) ∷ ‵ (fbor κ′ (Body (mem (row T)) b o γ)) ∷ ‵ (flft κ′ q′) ∷ (‵ (flft κ q) ⊛ ‵ ftrue) ∷ [])) (Post (S .val (G .first r)))
   exits r e is =
       qed W (‵ (fobs γ (row T .coded .code (G .second r))) ∷ ‵ (fbor κ′ (Body (mem (row T)) b o γ)) ∷ ‵ (flft κ′ q′) ∷ (‵ (flft κ q) ⊛ ‵ ftrue) ∷ []) ∵
       suffices ! _ (ends-at 𝓤 H A (lent S T) (stayed S T) (lent-clauses G F 𝓤) W (((κ, (κ′, tt)), (q, (q′, tt)), tt, x, at), tt) (S .val (G .first r)) (G .first r) (tt, (G .second r, tt)) (tt, (tt, tt))) $
-      says ! (G .eta r ∙ e) $ move ! (3 ∷ []) $ split ! $ move ! (4 ∷ 1 ∷ []) $ join ! $ move ! (1 ∷ 0 ∷ []) $ join ! $ frame ! $
+      says ! (subst Found (sym (G .eta r)) e) $ move ! (3 ∷ []) $ split ! $ move ! (4 ∷ 1 ∷ []) $ join ! $ move ! (1 ∷ 0 ∷ []) $ join ! $ frame ! $
       feqI ! (List Val) (vptr b o ∷ []) (vptr b o ∷ []) refl $ fjoin3 ! $ nothing ! $ move ! (1 ∷ 0 ∷ []) $ fjoin ! $ nothing ! $ fjoin ! $ frame ! $
       owned ! (row S) (Is (row S)) (S .makes 𝓤 H A) (G .first r) _ is $ done !
 
@@ -145,7 +145,7 @@ module _ {S T : Whole} (G : Joined S T) (F : Meaning G) (key : Name) {M : Type 1
         -- [what the core asks; the record's cell; the open borrow; obs; auth; _4 at 5; …]
         calls-at ! fm (Core G F 𝓤 H A) known to (and-then ! (load ! (from ! (stop !)) (look ! 11 refl)) (and-then ! (load ! (from ! (stop !)) (look ! 5 refl)) (no-more !))) (λ u.
         use1 W (later (some (λ (r : G .Denot). ((‵ (flft κ q) ⊛ ‵ ftrue) ⊛ ‵ (joinedRow G .own r (u ∷ []))) ⊛ raw (ensured 𝓤 H A (core G) (core-clauses G F 𝓤) (κ, tt) y tt r)))) (id⊢ 𝓤 _) $ await ! tt $ pick ! (λ r.
-        split ! $ move ! (1 ∷ []) $ use1 W (raw (fact 𝓤 (r ≡ found))) (said r) $ heard ! (r ≡ found) (λ e. split ! $ move ! (1 ∷ []) $
+        split ! $ move ! (1 ∷ []) $ use1 W (raw (fact 𝓤 (Found r))) (said r) $ heard ! (Found r) (λ e. split ! $ move ! (1 ∷ []) $
         peeks ! (joinedRow G) (Is (joinedRow G)) (shows 𝓤 H A (joinedRow G)) r (u ∷ []) (λ is.
         -- [what is answered owns; the other token; the record's cell; the open borrow; obs; auth; _4 at 6; …; _3 at 8; …; _2 at 10; …]
         land ! (from ! (stop !)) (init ! 8 refl (G .typed 𝓤 H A W r _ is .0)) $

@@ -17,10 +17,10 @@ ghost use Rattle.picture_rules.specs.Whole.{handed, ReadPicture};
 ghost use Rattle.picture_finish.specs.Private.Parts.{Tested};
 use picture_check::Checked;
 use picture_rules::Finished;
-use read_file::FileAnswer;
 use read_record::Jp2;
 use read_record::Palette;
 use read_record::Span;
+use read_rules::FileAnswer;
 
 mod channels;
 

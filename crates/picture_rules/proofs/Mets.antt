@@ -23,7 +23,7 @@ use Rattle.read_channels.specs.Cmap.{cmap}
 use Rattle.read_channels.specs.Cdef.{cdef}
 use Rattle.read_jp2h.specs.Split.{split}
 use Rattle.read_jp2h.specs.Jp2h.{readAll, lacksIhdr, jp2h}
-use Rattle.read_file.specs.File.{outer, run, walk, read}
+use Rattle.read_rules.specs.File.{outer, run, walk, read}
 use Rattle.read_rules.specs.Range.{range}
 use Rattle.read_rules.specs.Alike.{given, Alike}
 use Rattle.read_channels.specs.Definitions.{Def, def, definitionsTo, definitions}

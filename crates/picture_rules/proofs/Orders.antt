@@ -7,7 +7,7 @@ use native.Mathlib.Nat.{le-refl}
 use native.Mathlib.Omega.{arith}
 use Rattle.read_record.specs.declared.Jp2.{Jp2}
 use Rattle.read_record.specs.Answer.{Result, accepted}
-use Rattle.read_file.specs.File.{read}
+use Rattle.read_rules.specs.File.{read}
 use Rattle.read_rules.specs.Alike.{given}
 use Rattle.read_rules.proofs.Definitions.{definitions-free}
 use Rattle.read_rules.proofs.Frees.{palette-free, mappings-free}

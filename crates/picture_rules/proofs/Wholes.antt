@@ -11,10 +11,10 @@ use lib.ListN.{length, drop}
 use Rattle.read_record.specs.declared.Jp2.{Jp2}
 use Rattle.read_record.specs.Record.{blank}
 use Rattle.read_record.specs.Answer.{accepted, refused}
-use Rattle.read_file.specs.declared.FileAnswer.the-variants as answers
-use Rattle.read_file.specs.declared.Reading.{Reading}
-use Rattle.read_file.specs.File.{Walked, codestream, ended, fileRefused, read, reading}
-use Rattle.read_file.proofs.FileAnswer.{the-type}
+use Rattle.read_rules.specs.declared.FileAnswer.the-variants as answers
+use Rattle.read_rules.specs.declared.Reading.{Reading}
+use Rattle.read_rules.specs.File.{Walked, codestream, ended, fileRefused, read, reading}
+use Rattle.read_rules.proofs.FileAnswer.{the-type}
 use Rattle.read_rules.specs.Alike.{given}
 use Rattle.picture_rules.specs.Image.{Image, image}
 use Rattle.picture_rules.specs.Finish.{Finishing, finished, declined, counted, finish}

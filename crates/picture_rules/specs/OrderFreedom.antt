@@ -7,7 +7,7 @@ use lib.ListN.{length}
 use Rattle.read_record.specs.declared.Jp2.{Jp2}
 use Rattle.read_record.specs.Answer.{accepted}
 use Rattle.read_record.specs.Component.{alpha}
-use Rattle.read_file.specs.File.{read}
+use Rattle.read_rules.specs.File.{read}
 use Rattle.read_rules.specs.Alike.{given, Alike}
 use Rattle.read_rules.specs.Alike as reading
 use Rattle.read_channels.specs.Definitions.{definitions}

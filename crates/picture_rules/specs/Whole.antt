@@ -6,7 +6,7 @@ use lib.IntN.{ℤ}
 use lib.ListN.{length}
 use Rattle.read_record.specs.declared.Jp2.{Jp2}
 use Rattle.read_record.specs.Answer.{Result, accepted, refused}
-use Rattle.read_file.specs.File.{read}
+use Rattle.read_rules.specs.File.{read}
 use Rattle.read_rules.specs.Alike.{given}
 use Rattle.picture_rules.specs.Image.{Image, image}
 use Rattle.picture_rules.specs.Finish.{Finishing, declined, counted, finish}

@@ -5,7 +5,7 @@ use lib.IntN.{ℤ}
 use lib.ListN.{length}
 use Rattle.read_record.specs.declared.Jp2.{Jp2}
 use Rattle.read_record.specs.Answer.{accepted}
-use Rattle.read_file.specs.File.{read}
+use Rattle.read_rules.specs.File.{read}
 use Rattle.read_rules.specs.Alike.{given}
 use Rattle.read_channels.specs.Definitions.{definitions}
 use Rattle.picture_rules.specs.Rules.{Once}

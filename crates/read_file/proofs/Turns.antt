@@ -27,11 +27,11 @@ use Rattle.read_jp2h.specs.Split.{Boxes, firstBox, split}
 use Rattle.read_jp2h.specs.HeaderBox.{headerBox}
 use Rattle.read_jp2h.proofs.Ways.{box-child, box-jp2h}
 use Rattle.read_jp2h.proofs.Faults.{split-none}
-use Rattle.read_file.specs.declared.Reading.{Reading}
+use Rattle.read_rules.specs.declared.Reading.{Reading}
 use Rattle.read_file.specs.declared.Found.{Found}
 use Rattle.read_file.specs.declared.Found.the-variants.{Nothing, Codestream, Short, Past, Whole}
-use Rattle.read_file.specs.File.{Walked, ended, fileRefused, thenWalk, stream, other, pastEnd, outer, run, reading}
-use Rattle.read_file.specs.Private.Turn.{found, Heads, boxWith, boxAt, isRead, isEarly, headerOrSkipped}
+use Rattle.read_rules.specs.File.{Walked, ended, fileRefused, thenWalk, stream, other, isRead, pastEnd, outer, run, reading}
+use Rattle.read_file.specs.Private.Turn.{found, Heads, boxWith, boxAt, isEarly, headerOrSkipped}
 
 -- what was answered is what the definition says; where the file has ended, whatever the record before it
 pub gives : (j : Jp2) (w v : Walked) {r : Reading} → r ≡ reading j w → w ≡ v → r ≡ reading j v

@@ -20,7 +20,7 @@ use Rattle.read_jp2h.specs.Split.{firstBox, split, boxes}
 use Rattle.read_jp2h.proofs.Faults.{split-none}
 use Rattle.read_file.specs.declared.Found.{Found}
 use Rattle.read_file.specs.declared.Found.the-variants.{Nothing, Codestream, Short, Past, Whole}
-use Rattle.read_file.specs.File.{Walked, ended, fileRefused, stream, pastEnd, outer, run, walk}
+use Rattle.read_rules.specs.File.{Walked, ended, fileRefused, stream, pastEnd, outer, run, walk}
 use Rattle.read_file.specs.Private.Turn.{found, Heads, boxAt}
 use Rattle.read_file.proofs.Turns.{heads-long, found-tells}
 

@@ -9,8 +9,9 @@ ghost use Rattle.read_record.specs.Record.{blank};
 ghost use Rattle.read_record.specs.State.{withBit, unknown, withUnknown};
 ghost use Rattle.read_record.specs.Answer.{accepted, answer};
 ghost use Rattle.read_jp2h.specs.Split.{firstBox};
-ghost use Rattle.read_file.specs.File.{ended, fileRefused, stream, other, pastEnd, outer, walk, read, reading};
-ghost use Rattle.read_file.specs.Private.Turn.{found, Heads, boxWith, boxAt, isRead, isEarly, headerOrSkipped};
+ghost use Rattle.read_rules.specs.File.{ended, fileRefused, stream, other, isRead, pastEnd, outer, walk, read, reading};
+ghost use Rattle.read_rules.specs.CutTransfers.{WhateverWasLost, FileRead};
+ghost use Rattle.read_file.specs.Private.Turn.{found, Heads, boxWith, boxAt, isEarly, headerOrSkipped};
 use box_header::Jp2BoxHeader;
 use box_header::LARGEST;
 use box_header::ReadHeader;
@@ -18,6 +19,8 @@ use box_kind::Jp2BoxType;
 use read_record::Answer;
 use read_record::Jp2;
 use read_record::Outcome;
+use read_rules::FileAnswer;
+use read_rules::Reading;
 
 // The bits of jp2_state: file type, header, codestream, and all 31 low bits, which a box that is skipped sets. The signature's is the lowest.
 const FILE_TYPE: u32 = 2;
@@ -30,19 +33,6 @@ const UNKNOWN: u32 = 2147483647;
 
 // The bit above the 31 low ones.
 const HIGH: u32 = 2147483648;
-
-// What reading a file answers: the codestream's offset, "ended", or document 01's number and the place.
-pub enum FileAnswer {
-    Codestream(u32),
-    Ended,
-    Refused(u32, u32),
-}
-
-// An answer and the record after it.
-pub struct Reading {
-    pub answer: FileAnswer,
-    pub jp2: Jp2,
-}
 
 // What a place of the file has: no box, the codestream with its header's length, a box that is shorter than its header, one that reaches past the end, or a whole one.
 // The last two have the header as it was read: a kind alone would be put together from its bytes at each box.
@@ -229,9 +219,9 @@ fn read_whole(c: &[u8], at: u32, h: Jp2BoxHeader, k: Jp2) -> Outcome
     read_outer(ty, content, at, start, k)
 }
 
-// A file, read from a record on. `find_box` has no record, so that a turn copies it no more often than its reader does.
+// A file, read from a record on. The promise has request R-1 beside the result: where the file was broken off, it is right of the whole. `find_box` has no record, so that a turn copies it no more often than its reader does.
 pub fn opj_jp2_read_header_procedure(s: &[u8], j: Jp2) -> Reading
-    ensures { λ r. ⌜ r ≡ reading j (walk (now (s .entry)) j) ⌝ }
+    ensures { λ r. ⌜ FileRead (now (s .entry)) j r ⌝ }
 {
     if LARGEST < s.len() {
         return refuse(1, 0, j);
@@ -271,9 +261,10 @@ pub fn opj_jp2_read_header_procedure(s: &[u8], j: Jp2) -> Reading
     ended(k)
 }
 
-// A file, read from the record before any box.
+// A file, read from the record before any box. The last clause is request R-1.
 pub fn read_file(s: &[u8]) -> Reading
     ensures { λ r. ⌜ r ≡ reading blank (read (now (s .entry))) ⌝ }
+    ensures { λ r. ⌜ WhateverWasLost (now (s .entry)) blank r ⌝ }
 {
     opj_jp2_read_header_procedure(s, read_record::opj_jp2_create())
 }

@@ -2,7 +2,7 @@
 -- Assumes nothing.
 use mathlib.Core.Path.{_≡_, ap, sym, _∙_}
 use Rattle.read_record.specs.declared.Outcome.{Outcome}
-use Rattle.read_file.specs.declared.Reading.{Reading}
+use Rattle.read_rules.specs.declared.Reading.{Reading}
 use Rattle.read_lent.specs.Exact.{OneOutcome, OneReading}
 
 pub one-outcome : OneOutcome

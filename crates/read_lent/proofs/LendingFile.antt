@@ -14,12 +14,12 @@ use denote.Struct.Laws as LL
 use Rattle.read_record.specs.declared.Jp2.{Jp2}
 use Rattle.read_record.proofs.Jp2 as T
 use Rattle.read_record.proofs.Jp2.Laws as T′
-use Rattle.read_file.specs.declared.Reading.{Reading}
-use Rattle.read_file.specs.File as file
-use Rattle.read_file.proofs.Reading as G
-use Rattle.read_file.proofs.Reading.Laws as G′
-use Rattle.read_file.proofs.FileAnswer as S
-use Rattle.read_file.proofs.FileAnswer.Laws as S′
+use Rattle.read_rules.specs.declared.Reading.{Reading}
+use Rattle.read_rules.specs.CutTransfers.{FileRead}
+use Rattle.read_rules.proofs.Reading as G
+use Rattle.read_rules.proofs.Reading.Laws as G′
+use Rattle.read_rules.proofs.FileAnswer as S
+use Rattle.read_rules.proofs.FileAnswer.Laws as S′
 use Rattle.read_file.proofs.opj_jp2_read_header_procedure as core
 use Rattle.lent_proofs.proofs.Whole.{ofStruct, ofEnum, Joined}
 use Rattle.lent_proofs.proofs.LentFile as any
@@ -45,9 +45,9 @@ reading = record {
   makes = LL.makes G.the-type G′.the-plain;
 }
 
--- what the walk by value answers
-abbrev pub read : List ℕ → Jp2 → Reading
-read f j = file.reading j (file.walk f j)
+-- what the walk by value promises
+abbrev pub read : List ℕ → Jp2 → Reading → Type 0
+read f j r = FileRead f j r
 
 abbrev pub core-clauses : {M : Type 1} (𝓤 : URA M) → Clauses 𝓤 core.ended
 core-clauses 𝓤 = any.core-clauses reading read 𝓤

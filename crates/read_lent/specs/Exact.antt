@@ -3,8 +3,8 @@ use mathlib.Core.Path.{_≡_}
 use Rattle.read_record.specs.declared.Jp2.{Jp2}
 use Rattle.read_record.specs.declared.Answer.{Answer}
 use Rattle.read_record.specs.declared.Outcome.{Outcome}
-use Rattle.read_file.specs.declared.FileAnswer.{FileAnswer}
-use Rattle.read_file.specs.declared.Reading.{Reading}
+use Rattle.read_rules.specs.declared.FileAnswer.{FileAnswer}
+use Rattle.read_rules.specs.declared.Reading.{Reading}
 use Rattle.read_lent.specs.Lent.{leaves}
 use Rattle.read_lent.specs.LentFile.{leavesFile}
 

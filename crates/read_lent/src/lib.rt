@@ -12,11 +12,11 @@ ghost use Rattle.read_palette.specs.Pclr.{pclr};
 ghost use Rattle.read_channels.specs.Cmap.{cmap};
 ghost use Rattle.read_channels.specs.Cdef.{cdef};
 ghost use Rattle.read_jp2h.specs.Jp2h.{jp2hAlone};
-ghost use Rattle.read_file.specs.File.{walk, reading};
+ghost use Rattle.read_rules.specs.CutTransfers.{FileRead};
 ghost use Rattle.read_lent.specs.LentFile.{leavesFile};
-use read_file::FileAnswer;
 use read_record::Answer;
 use read_record::Jp2;
+use read_rules::FileAnswer;
 
 pub fn opj_jp2_read_jp(c: &[u8], place: u32, start: u32, j: &mut Jp2) -> Answer
     ensures { λ r. ⌜ leaves r (now (j .exit)) ≡ answer (now (j .entry)) (signature place start (now (c .entry)) (now (j .entry))) ⌝ }
@@ -95,7 +95,7 @@ pub fn opj_jp2_read_jp2h(c: &[u8], place: u32, start: u32, j: &mut Jp2) -> Answe
 // A file over a header record that is lent, in the same way: the record is taken out, read by value, and stored back.
 
 pub fn opj_jp2_read_header_procedure(s: &[u8], j: &mut Jp2) -> FileAnswer
-    ensures { λ r. ⌜ leavesFile r (now (j .exit)) ≡ reading (now (j .entry)) (walk (now (s .entry)) (now (j .entry))) ⌝ }
+    ensures { λ r. ⌜ FileRead (now (s .entry)) (now (j .entry)) (leavesFile r (now (j .exit))) ⌝ }
 {
     let r = read_file::opj_jp2_read_header_procedure(s, *j);
     *j = r.jp2;

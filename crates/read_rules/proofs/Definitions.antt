@@ -10,7 +10,7 @@ use Rattle.box_number.proofs.Rows.{row, each}
 use Rattle.read_record.specs.declared.Jp2.{Jp2}
 use Rattle.read_record.specs.Record.{blank}
 use Rattle.read_record.specs.Answer.{accepted}
-use Rattle.read_file.specs.File.{Walked, codestream, ended, fileRefused, walk, read}
+use Rattle.read_rules.specs.File.{Walked, codestream, ended, fileRefused, walk, read}
 use Rattle.read_rules.specs.Alike.{given, DefinitionsFree}
 use Rattle.read_rules.specs.Apart.{entries}
 use Rattle.read_rules.specs.Places.{PlacesWithin, NumbersWithin, TooLong}

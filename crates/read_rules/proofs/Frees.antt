@@ -12,7 +12,7 @@ use Rattle.read_record.specs.declared.Palette.{Palette}
 use Rattle.read_record.specs.declared.Jp2.{Jp2}
 use Rattle.read_record.specs.Answer.{accepted}
 use Rattle.read_palette.specs.Pclr.{entryBytes, rowBytes, rowSize, B, Cji}
-use Rattle.read_file.specs.File.{read}
+use Rattle.read_rules.specs.File.{read}
 use Rattle.read_rules.specs.Range.{end}
 use Rattle.read_rules.specs.Alike.{Alike, given, definitionRange}
 use Rattle.read_rules.specs.Apart.{rows, kept}

@@ -16,24 +16,24 @@ use Rattle.read_record.specs.Answer.{andThen}
 use Rattle.read_jp2h.specs.Split.{Boxes, noBytes, _▸_, firstBox, split, boxes}
 use Rattle.read_jp2h.specs.Child.{child}
 use Rattle.read_jp2h.specs.Jp2h.{readAll}
-use Rattle.read_file.specs.File.{Walked, thenWalk, outer, whole, run, walk}
+use Rattle.read_rules.specs.File.{Walked, thenWalk, outer, whole, run, walk}
 use Rattle.read_rules.specs.BoxByBox.{childrenFrom, boxFrom, boxesFrom, BoxByBox}
 
 -- the header's answers
 module _ (c : List ℕ) where
-  header-none : length c ≡ 0 → header c ≡ NoBytes
+  pub header-none : length c ≡ 0 → header c ≡ NoBytes
   unfolding header
   header-none h = sym (row 0 _ h refl)
 
-  header-cut : (length c ≡ 0 → ⊥) → length c < headerLength c → header c ≡ Cut
+  pub header-cut : (length c ≡ 0 → ⊥) → length c < headerLength c → header c ≡ Cut
   unfolding header
   header-cut some h = sym (row 1 _ (some, h) refl)
 
-  header-high : (length c ≡ 0 → ⊥) → headerLength c ≤ length c → 4294967295 < boxLength c → header c ≡ HighWord
+  pub header-high : (length c ≡ 0 → ⊥) → headerLength c ≤ length c → 4294967295 < boxLength c → header c ≡ HighWord
   unfolding header
   header-high some h l = sym (row 2 _ (some, (h, l)) refl)
 
-  header-there : (length c ≡ 0 → ⊥) → headerLength c ≤ length c → boxLength c ≤ 4294967295 → header c ≡ Header (headerOf c)
+  pub header-there : (length c ≡ 0 → ⊥) → headerLength c ≤ length c → boxLength c ≤ 4294967295 → header c ≡ Header (headerOf c)
   unfolding header
   header-there some h l = sym (row 3 _ (some, (h, (l, tt))) refl)
 
@@ -67,11 +67,11 @@ unfolding split
 split-none zero at c z = refl
 split-none (suc n) at c z = sym (row 0 _ z refl)
 
-rest-less : (c : List ℕ) (n : ℕ) → headerLength c ≤ boxLength c → boxLength c ≤ length c → length c ≤ suc n → length (drop (boxLength c) c) ≤ n
+pub rest-less : (c : List ℕ) (n : ℕ) → headerLength c ≤ boxLength c → boxLength c ≤ length c → length c ≤ suc n → length (drop (boxLength c) c) ≤ n
 rest-less c n least within h = rw length-drop (omega (arith, header-least c))
 
 -- the split does not depend on the bound, where it is large enough
-split-enough : (n m at : ℕ) (c : List ℕ) → length c ≤ n → length c ≤ m → split n at c ≡ split m at c
+pub split-enough : (n m at : ℕ) (c : List ℕ) → length c ≤ n → length c ≤ m → split n at c ≡ split m at c
 unfolding split
 split-enough zero m at c h l = sym (split-none m at c (omega arith))
 split-enough (suc n) zero at c h l = split-none (suc n) at c (omega arith)

@@ -13,3 +13,5 @@ pub mod Frees
 pub mod Again
 pub mod Sounds
 pub mod Headers
+pub mod Beginnings
+pub mod Cuts

@@ -9,7 +9,7 @@ use Rattle.box_header.specs.Box.{headerLength, boxLength}
 use Rattle.read_record.specs.declared.Span.{Span}
 use Rattle.read_record.specs.declared.Jp2.{Jp2}
 use Rattle.read_record.specs.Answer.{Result, accepted, refused}
-use Rattle.read_file.specs.File.{Walked, codestream, ended, fileRefused, thenWalk}
+use Rattle.read_rules.specs.File.{Walked, codestream, ended, fileRefused, thenWalk}
 use Rattle.read_rules.specs.Apart.{entries}
 use Rattle.read_rules.proofs.Sames.{Headed}
 use Rattle.read_rules.proofs.Parts.{Whole, content, rest, length-content, length-rest, AlikeFrom, equal-before, equal-after, alike-drop, alike-headed, alike-part}

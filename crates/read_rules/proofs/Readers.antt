@@ -20,7 +20,7 @@ use Rattle.read_palette.specs.Pclr.{pclr}
 use Rattle.read_channels.specs.Cmap.{cmap}
 use Rattle.read_channels.specs.Cdef.{N, cdef}
 use Rattle.read_jp2h.specs.Child.{skipped, reader}
-use Rattle.read_file.specs.File.{ended, thenWalk}
+use Rattle.read_rules.specs.File.{ended, thenWalk}
 use Rattle.read_rules.proofs.Sames.{number-same}
 use Rattle.read_rules.proofs.Parts.{Lies, alike-first}
 use Rattle.read_rules.proofs.Changes.{Change, marked, typed, sized, deep, tinted, cielab, profiled, indexed, mapped, defined, Law}

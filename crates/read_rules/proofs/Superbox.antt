@@ -19,7 +19,7 @@ use Rattle.read_record.specs.Answer.{Result, accepted, refused, andThen}
 use Rattle.read_jp2h.specs.Split.{firstBox, split, boxes}
 use Rattle.read_jp2h.specs.Child.{child}
 use Rattle.read_jp2h.specs.Jp2h.{readAll, lacksIhdr, withHeaderBit, jp2h}
-use Rattle.read_file.specs.File.{ended, thenWalk}
+use Rattle.read_rules.specs.File.{ended, thenWalk}
 use Rattle.read_rules.proofs.Sames.{headed-self}
 use Rattle.read_rules.proofs.Parts.{Whole, content, rest, Lies, lies-part, lies-drop}
 use Rattle.read_rules.proofs.Splits.{boxOf, Found, split-next}

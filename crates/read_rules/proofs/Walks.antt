@@ -14,7 +14,7 @@ use Rattle.read_record.specs.declared.Jp2.{Jp2}
 use Rattle.read_record.specs.State.{withUnknown}
 use Rattle.read_record.specs.Answer.{Result, accepted}
 use Rattle.read_jp2h.specs.Split.{Box, firstBox, split}
-use Rattle.read_file.specs.File.{Walked, ended, thenWalk, isStream, stream, other, outer, pastEnd, whole, run}
+use Rattle.read_rules.specs.File.{Walked, ended, thenWalk, isStream, stream, other, outer, pastEnd, whole, run}
 use Rattle.read_rules.proofs.Sames.{headed-self}
 use Rattle.read_rules.proofs.Parts.{Whole, content, rest, Lies, lies-part, lies-drop}
 use Rattle.read_rules.proofs.Splits.{boxOf, Found, split-next, split-last}

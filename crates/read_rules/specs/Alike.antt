@@ -5,7 +5,7 @@ use mathlib.Core.List.{List}
 use lib.ListN.{length, getD}
 use Rattle.read_record.specs.declared.Jp2.{Jp2}
 use Rattle.read_record.specs.Answer.{Result, accepted, refused}
-use Rattle.read_file.specs.File.{Walked, codestream, ended, fileRefused, read}
+use Rattle.read_rules.specs.File.{Walked, codestream, ended, fileRefused, read}
 use Rattle.read_rules.specs.Range.{Range, range, In}
 
 -- g has the length of f and, outside a range, its bytes

@@ -8,7 +8,7 @@ use Rattle.read_record.specs.declared.Palette.{Palette}
 use Rattle.read_record.specs.declared.Jp2.{Jp2}
 use Rattle.read_record.specs.Answer.{accepted}
 use Rattle.read_palette.specs.Pclr.{rowSize}
-use Rattle.read_file.specs.File.{read}
+use Rattle.read_rules.specs.File.{read}
 use Rattle.read_rules.specs.Range.{Range, range, Inside, Pairwise}
 use Rattle.read_rules.specs.Alike.{given}
 

@@ -12,7 +12,7 @@ use Rattle.read_record.specs.Answer.{Result, accepted, refused, andThen}
 use Rattle.read_jp2h.specs.Split.{Box, boxes}
 use Rattle.read_jp2h.specs.Child.{child}
 use Rattle.read_jp2h.specs.Jp2h.{readAll}
-use Rattle.read_file.specs.File.{Walked, ended, fileRefused, thenWalk, isStream, stream, pastEnd, outer, run, walk}
+use Rattle.read_rules.specs.File.{Walked, ended, fileRefused, thenWalk, isStream, stream, pastEnd, outer, run, walk}
 
 -- one result where the boxes end, one for a refusal, one for a box to look at
 abbrev pub by : {X : Type 0} → HeaderMeaning → X → (ℕ → X) → (Jp2BoxHeader → X) → X

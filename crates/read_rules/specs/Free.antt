@@ -7,7 +7,7 @@ use Rattle.read_record.specs.declared.Jp2.{Jp2}
 use Rattle.read_record.specs.Answer.{accepted}
 use Rattle.read_palette.specs.Pclr.{B, Cji}
 use Rattle.read_channels.specs.Cmap.{CMP, MTYP, PCOL}
-use Rattle.read_file.specs.File.{read}
+use Rattle.read_rules.specs.File.{read}
 use Rattle.read_rules.specs.Alike.{Alike, given, definitionRange}
 
 -- where f is read to a record, and g differs from f at most in that record's definition list, something is the same in both

@@ -1,3 +1,4 @@
+pub mod File
 pub mod Range
 pub mod Alike
 pub mod Apart
@@ -8,3 +9,6 @@ pub mod BoxByBox
 pub mod Files
 pub mod Records
 pub mod Fields
+pub mod Beginnings
+pub mod CutTransfers
+pub mod CutCases

@@ -4,7 +4,7 @@ use mathlib.Core.Path.{_≡_}
 use mathlib.Core.List.{List}
 use lib.ListN.{length}
 use Rattle.read_record.specs.declared.Jp2.{Jp2}
-use Rattle.read_file.specs.File.{codestream, fileRefused, walk}
+use Rattle.read_rules.specs.File.{codestream, fileRefused, walk}
 
 -- a file is refused at one of its bytes, and its codestream starts at a byte or at the file's end, whatever record it is read from
 pub record PlacesWithin : Type 0 where

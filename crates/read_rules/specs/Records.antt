@@ -33,10 +33,10 @@ use Rattle.read_channels.specs.Cdef.{cdef}
 use Rattle.read_jp2h.specs.Split.{split}
 use Rattle.read_jp2h.specs.Jp2h.{readAll, lacksIhdr, jp2h, jp2hAlone}
 use Rattle.read_jp2h.specs.HeaderBox.{headerBox}
-use Rattle.read_file.specs.declared.FileAnswer.{FileAnswer}
-use Rattle.read_file.specs.declared.FileAnswer.the-variants.{Codestream, Ended, Refused}
-use Rattle.read_file.specs.declared.Reading.{Reading}
-use Rattle.read_file.specs.File.{outer, run, walk, reading}
+use Rattle.read_rules.specs.declared.FileAnswer.{FileAnswer}
+use Rattle.read_rules.specs.declared.FileAnswer.the-variants.{Codestream, Ended, Refused}
+use Rattle.read_rules.specs.declared.Reading.{Reading}
+use Rattle.read_rules.specs.File.{outer, run, walk, reading}
 use Rattle.read_rules.specs.Files.{two, four, boxByNumber}
 
 -- boxes by the number of their kind

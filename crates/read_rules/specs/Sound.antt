@@ -11,7 +11,7 @@ use Rattle.read_record.specs.Answer.{accepted}
 use Rattle.read_palette.specs.Pclr.{pclr}
 use Rattle.read_channels.specs.Cmap.{cmap}
 use Rattle.read_channels.specs.Cdef.{cdef}
-use Rattle.read_file.specs.File.{read}
+use Rattle.read_rules.specs.File.{read}
 use Rattle.read_rules.specs.Alike.{given}
 
 -- a palette; read from its NE on, three bytes before its Bi, it is taken again

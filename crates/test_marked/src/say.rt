@@ -1,6 +1,6 @@
 // A case, and the answer of reading its file.
 use libc::STDOUT_FILENO;
-use read_file::FileAnswer;
+use read_rules::FileAnswer;
 use test_lines::say;
 
 pub(crate) fn came(case: &[u8], file: &[u8]) {

@@ -25,7 +25,7 @@ use Rattle.read_channels.specs.Cdef.{cdef}
 use Rattle.read_channels.specs.Definitions.{def, definitionsTo}
 use Rattle.read_jp2h.specs.Split.{firstBox, split}
 use Rattle.read_jp2h.specs.Jp2h.{readAll, lacksIhdr, jp2h}
-use Rattle.read_file.specs.File.{Walked, codestream, ended, fileRefused, outer, run, walk, read}
+use Rattle.read_rules.specs.File.{Walked, codestream, ended, fileRefused, outer, run, walk, read}
 use Rattle.read_rules.specs.Alike.{given}
 use Rattle.read_rules.specs.Files.{two, four, boxOf, extended, free, signatureBox, fileTypeBox, streamBox, unknownBox, ihdrBox, greyBox, pclrBox, pictureFile}
 use Rattle.write_rules.specs.Request.{Request}

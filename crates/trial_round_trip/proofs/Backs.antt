@@ -9,9 +9,9 @@ use lib.Seq.{take-at}
 use Rattle.box_number.specs.Number.{part, placed}
 use Rattle.read_record.specs.declared.Jp2.{Jp2}
 use Rattle.read_record.specs.Record.{blank}
-use Rattle.read_file.specs.declared.FileAnswer.the-variants.{Codestream}
-use Rattle.read_file.specs.declared.Reading.{Reading}
-use Rattle.read_file.specs.File.{Walked, codestream, read, reading}
+use Rattle.read_rules.specs.declared.FileAnswer.the-variants.{Codestream}
+use Rattle.read_rules.specs.declared.Reading.{Reading}
+use Rattle.read_rules.specs.File.{Walked, codestream, read, reading}
 use Rattle.write_rules.specs.Request.{Request}
 use Rattle.write_rules.specs.Writing.{Writing, written, declined, write, destination}
 use Rattle.write_rules.specs.RoundTrip.{ReadBack}

@@ -4,9 +4,9 @@ use mathlib.Core.Path.{_≡_}
 use mathlib.Core.List.{List}
 use lib.ListN.{take}
 use Rattle.read_record.specs.Record.{blank}
-use Rattle.read_file.specs.declared.FileAnswer.the-variants.{Codestream}
-use Rattle.read_file.specs.declared.Reading.{Reading}
-use Rattle.read_file.specs.File.{read, reading}
+use Rattle.read_rules.specs.declared.FileAnswer.the-variants.{Codestream}
+use Rattle.read_rules.specs.declared.Reading.{Reading}
+use Rattle.read_rules.specs.File.{read, reading}
 use Rattle.write_rules.specs.Request.{Request}
 use Rattle.write_rules.specs.RoundTrip.{ReadBack}
 use Rattle.write_boxes.specs.declared.Written.{Written}

@@ -5,7 +5,7 @@ ghost use Rattle.write_rules.specs.Writing.{write, destination};
 ghost use Rattle.write_rules.specs.Request.{request};
 ghost use Rattle.write_boxes.specs.Answers.{answered};
 ghost use Rattle.trial_round_trip.specs.Back.{bytesOf, readingOf, ComesBack};
-use read_file::Reading;
+use read_rules::Reading;
 use write_boxes::Written;
 
 // What writing answered, and the reading of the bytes that were written: of none after a refusal.

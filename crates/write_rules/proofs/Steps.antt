@@ -19,7 +19,7 @@ use Rattle.read_record.specs.Answer.{accepted}
 use Rattle.read_jp2h.specs.Split.{Box, past, _▸_, firstBox, split}
 use Rattle.read_jp2h.specs.Child.{child}
 use Rattle.read_jp2h.specs.Jp2h.{readAll}
-use Rattle.read_file.specs.File.{Walked, codestream, stream, outer, run}
+use Rattle.read_rules.specs.File.{Walked, codestream, stream, outer, run}
 use Rattle.box_number.proofs.Indices.{decide}
 use Rattle.write_rules.specs.Box.{boxHeader, box}
 use Rattle.write_rules.proofs.Lengths.{length-header, length-box}

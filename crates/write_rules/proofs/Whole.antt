@@ -19,7 +19,7 @@ use Rattle.read_signature.specs.Signature as reading
 use Rattle.read_signature.specs.FileType as typing
 use Rattle.read_jp2h.specs.Split.{split}
 use Rattle.read_jp2h.specs.Jp2h.{withHeaderBit}
-use Rattle.read_file.specs.File.{codestream, outer, run, walk, read}
+use Rattle.read_rules.specs.File.{codestream, outer, run, walk, read}
 use Rattle.write_rules.specs.Request.{Request}
 use Rattle.write_rules.specs.Setup.{fieldsOf}
 use Rattle.read_signature.specs.Signature.{signatureContent}

@@ -10,7 +10,7 @@ use Rattle.read_record.specs.declared.Jp2.{Jp2}
 use Rattle.read_record.specs.Record.{span, palette, status}
 use Rattle.read_signature.specs.FileType as signature
 use Rattle.read_image.specs.Bpcc as image
-use Rattle.read_file.specs.File.{codestream, read}
+use Rattle.read_rules.specs.File.{codestream, read}
 use Rattle.read_rules.specs.Free.{profile}
 use Rattle.read_channels.specs.Definitions.{def}
 use Rattle.read_channels.specs.Definitions as order

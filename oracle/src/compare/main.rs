@@ -1,8 +1,9 @@
-//! Compares the port's reading with the crate's on many files, its finishing on many pictures and its writing on many
-//! requests, and times both.
+//! Compares the port's reading with the crate's on many files and their beginnings, its finishing on many pictures and
+//! its writing on many requests, and times both.
 
 mod arguments;
 mod comparison;
+mod cuts;
 mod ours;
 mod pictures;
 mod port;
@@ -28,9 +29,10 @@ fn main() -> ExitCode {
             seed,
             count,
             samples,
+            cuts,
             pictures,
             writings,
-        }) => compare(seed, count, samples.as_deref(), pictures, writings),
+        }) => compare(seed, count, samples.as_deref(), cuts, pictures, writings),
         Err(why) => Err(why),
     };
     match same {
@@ -40,17 +42,21 @@ fn main() -> ExitCode {
     }
 }
 
-/// Reading, finishing and writing, each where a number of files, pictures or requests is given.
+/// Reading, reading beginnings, finishing and writing, each where a number of files, pictures or requests is given.
 fn compare(
     seed: u64,
     count: Option<u64>,
     samples: Option<&Path>,
+    cuts: Option<u64>,
     pictures: Option<u64>,
     writings: Option<u64>,
 ) -> Result<bool, String> {
     let mut same = true;
     if let Some(count) = count {
         same &= reading::compare(seed, count, samples)?;
+    }
+    if let Some(count) = cuts {
+        same &= cuts::compare(seed, count, samples)?;
     }
     if let Some(count) = pictures {
         same &= pictures::compare(seed, count);

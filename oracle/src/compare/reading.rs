@@ -16,8 +16,7 @@ type Picture = (PathBuf, Vec<u8>);
 
 /// Whether the two agree on all files; or why the folder of pictures cannot be read.
 pub fn compare(seed: u64, count: u64, folder: Option<&Path>) -> Result<bool, String> {
-    let pictures = folder.map_or(Ok(Vec::new()), jp2_files);
-    let pictures = pictures.map_err(|error| format!("the samples cannot be read: {error}"))?;
+    let pictures = folder.map_or(Ok(Vec::new()), jp2_files)?;
     if !ours::minds_its_room(&[]) {
         println!("the port does not mind the length of the list that it writes to");
         return Ok(false);
@@ -53,8 +52,12 @@ fn minds_the_length() -> bool {
     minded
 }
 
-/// The files of a folder that have the ending of a picture, by name.
-fn jp2_files(folder: &Path) -> std::io::Result<Vec<Picture>> {
+/// The files of a folder that have the ending of a picture, by name; or why they cannot be read.
+pub fn jp2_files(folder: &Path) -> Result<Vec<Picture>, String> {
+    list(folder).map_err(|error| format!("the samples cannot be read: {error}"))
+}
+
+fn list(folder: &Path) -> std::io::Result<Vec<Picture>> {
     let mut paths = Vec::new();
     for entry in std::fs::read_dir(folder)? {
         let path = entry?.path();

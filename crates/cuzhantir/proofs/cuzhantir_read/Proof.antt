@@ -1,12 +1,14 @@
 -- `cuzhantir::cuzhantir_read` meets its contract.
 -- Assumes nothing.
+use native.Mathlib.Omega.{arith}
 use mathlib.Core.Path.{sym, ap, _∙_}
 use lib.ListN.{length}
 use Rattle.box_number.specs.Number.{placed}
-use Rattle.read_file.specs.declared.Reading.{Reading}
+use Rattle.read_rules.specs.declared.Reading.{Reading}
 use Rattle.export_rules.specs.Places.{readingLength}
 use Rattle.export_rules.specs.Numbers.{numbers, refusalNumber}
 use Rattle.export_rules.proofs.Room.{short, long}
+use Rattle.export_rules.proofs.CutTold.{cut-told}
 use Rattle.cuzhantir.proofs.Giving.{length-answer, room-first, room-last, all}
 use Rattle.cuzhantir.proofs.cuzhantir_read.Statement.{statement}
 use Rattle.cuzhantir.proofs.cuzhantir_read.Tie as tie
@@ -15,7 +17,7 @@ returns : tie.Need-returns
 returns c =
     let d = c .before .before .before .args .reading .now in
     let h = c .if1 .taken in
-    (short readingLength d _ _ h, short readingLength d _ _ h)
+    (short readingLength d _ _ h, (short readingLength d _ _ h, λ l. absurd (omega arith)))
 
 read-file-requires : tie.Need-read-file-requires
 read-file-requires c κs = tt
@@ -81,9 +83,10 @@ returns-2 c =
     let d = c .before .before .before .before .before .before .before .before .before .before .before .before .before .before .before .before .before .before .before .before .before .before .before .before .before .before .before .before .before .before .before .before .args .reading .now in
     let r = c .before .before .before .before .before .before .before .before .before .before .before .before .before .before .before .before .before .before .before .before .before .before .before .before .before .before .before .before .read-file .result in
     let h = c .before .before .before .before .before .before .before .before .before .before .before .before .before .before .before .before .before .before .before .before .before .before .before .before .before .before .before .before .before .if1 .left in
-    let e = c .before .before .before .before .before .before .before .before .before .before .before .before .before .before .before .before .before .before .before .before .before .before .before .before .before .before .before .before .read-file .ensures in
+    let e = c .before .before .before .before .before .before .before .before .before .before .before .before .before .before .before .before .before .before .before .before .before .before .before .before .before .before .before .before .read-file .ensures .0 in
     let given = all d r h (c .before .before .before .before .before .before .before .before .before .before .before .before .before .before .before .before .before .before .before .before .before .before .before .answer-numbers .ensures) (c .before .before .before .before .before .before .before .before .before .before .before .before .before .before .before .before .before .before .before .before .before .image-numbers .ensures) (c .before .before .before .before .before .before .before .before .before .before .before .before .before .before .before .before .before .before .before .colour-numbers .ensures) (c .before .before .before .before .before .before .before .before .before .type-numbers .ensures) (c .before .before .before .before .before .before .before .list-numbers .ensures) (c .before .before .before .before .before .status-numbers .ensures) (c .before .before .before .before .before .before .before .before .before .before .before .before .before .before .before .before .before .put-three .ensures) (c .before .before .before .put-three2 .ensures) in
-    (long readingLength d _ _ h (c .answer-number .ensures ∙ ap (λ (x : Reading). refusalNumber (x .answer)) e), long readingLength d _ _ h (given ∙ ap (λ (x : Reading). placed d 0 (numbers x)) e))
+    let all-given = given ∙ ap (λ (x : Reading). placed d 0 (numbers x)) e in
+    (long readingLength d _ _ h (c .answer-number .ensures ∙ ap (λ (x : Reading). refusalNumber (x .answer)) e), (long readingLength d _ _ h all-given, cut-told _ d _ all-given))
 
 pub cuzhantir-read-spec : {M : Type 1} → statement M
 cuzhantir-read-spec =

@@ -1,7 +1,7 @@
 -- `read_file::ended` meets its contract.
 -- Assumes nothing.
 use mathlib.Core.Path.{refl}
-use Rattle.read_file.specs.File.{reading}
+use Rattle.read_rules.specs.File.{reading}
 use Rattle.read_file.proofs.ended.Statement.{statement}
 use Rattle.read_file.proofs.ended.Tie as tie
 

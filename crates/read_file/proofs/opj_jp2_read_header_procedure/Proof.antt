@@ -5,7 +5,8 @@ use mathlib.Core.Path.{refl}
 use lib.ListN.{length}
 use Rattle.box_number.proofs.Rows.{row}
 use Rattle.read_jp2h.specs.Split.{boxes}
-use Rattle.read_file.specs.File.{run, walk}
+use Rattle.read_rules.specs.File.{run, walk}
+use Rattle.read_rules.proofs.Cuts.{file-read}
 use Rattle.read_file.proofs.Turns.{gives, gives-end}
 use Rattle.read_file.proofs.Walking.{Going, going-start, going-end, going-none, going-header, going-stream, going-short, going-past, going-heads, going-fits, going-less, going-down, going-on, walked}
 use borrow.Author.Needs.{needs}
@@ -23,7 +24,7 @@ refuse-requires c κs = tt
 
 returns : tie.Need-returns Inv-loop μ-loop
 unfolding walk
-returns c = gives _ _ _ (c .refuse .ensures) (row 0 _ (omega arith) refl)
+returns c = file-read _ _ _ (gives _ _ _ (c .refuse .ensures) (row 0 _ (omega arith) refl))
 
 loop-holds : tie.Need-loop-holds Inv-loop μ-loop
 loop-holds c = let a = c .before .before .args in going-start (a .s .now) (a .j) (omega arith)
@@ -38,7 +39,7 @@ ended-requires : tie.Need-ended-requires Inv-loop μ-loop
 ended-requires c κs = tt
 
 returns-2 : tie.Need-returns-2 Inv-loop μ-loop
-returns-2 c = let a = c .before .before .before .before .before .before .before .before .args in gives-end (a .j) _ _ (c .ended .ensures) (walked (a .s .now) (a .j) (omega arith) (going-none (c .before .before .before .before .before .loop .inv) (omega arith) (c .before .before .before .find-box .ensures) (c .before .enum-told .given .1)))
+returns-2 c = let a = c .before .before .before .before .before .before .before .before .args in file-read _ _ _ (gives-end (a .j) _ _ (c .ended .ensures) (walked (a .s .now) (a .j) (omega arith) (going-none (c .before .before .before .before .before .loop .inv) (omega arith) (c .before .before .before .find-box .ensures) (c .before .enum-told .given .1))))
 
 enum-known-found : tie.Need-enum-known-found Inv-loop μ-loop
 enum-known-found c = search needs
@@ -50,7 +51,7 @@ read-stream-requires : tie.Need-read-stream-requires Inv-loop μ-loop
 read-stream-requires c κs = tt
 
 returns-3 : tie.Need-returns-3 Inv-loop μ-loop
-returns-3 c = let a = c .before .before .before .before .before .before .before .before .before .args in gives _ _ _ (c .read-stream .ensures) (walked (a .s .now) (a .j) (omega arith) (going-stream (c .before .before .before .before .before .before .loop .inv) (omega arith) (c .before .before .before .before .find-box .ensures) (c .before .before .found .given .1)))
+returns-3 c = let a = c .before .before .before .before .before .before .before .before .before .args in file-read _ _ _ (gives _ _ _ (c .read-stream .ensures) (walked (a .s .now) (a .j) (omega arith) (going-stream (c .before .before .before .before .before .before .loop .inv) (omega arith) (c .before .before .before .before .find-box .ensures) (c .before .before .found .given .1))))
 
 enum-told-2 : tie.Need-enum-told-2 Inv-loop μ-loop
 enum-told-2 c = search needs
@@ -59,7 +60,7 @@ refuse-requires-2 : tie.Need-refuse-requires-2 Inv-loop μ-loop
 refuse-requires-2 c κs = tt
 
 returns-4 : tie.Need-returns-4 Inv-loop μ-loop
-returns-4 c = let a = c .before .before .before .before .before .before .before .before .args in gives _ _ _ (c .refuse2 .ensures) (walked (a .s .now) (a .j) (omega arith) (going-short (c .before .before .before .before .before .loop .inv) (omega arith) (c .before .before .before .find-box .ensures) (c .before .enum-told2 .given .1)))
+returns-4 c = let a = c .before .before .before .before .before .before .before .before .args in file-read _ _ _ (gives _ _ _ (c .refuse2 .ensures) (walked (a .s .now) (a .j) (omega arith) (going-short (c .before .before .before .before .before .loop .inv) (omega arith) (c .before .before .before .find-box .ensures) (c .before .enum-told2 .given .1))))
 
 enum-known-found-2 : tie.Need-enum-known-found-2 Inv-loop μ-loop
 enum-known-found-2 c = search needs
@@ -68,7 +69,7 @@ read-past-requires : tie.Need-read-past-requires Inv-loop μ-loop
 read-past-requires c κs = tt
 
 returns-5 : tie.Need-returns-5 Inv-loop μ-loop
-returns-5 c = let a = c .before .before .before .before .before .before .before .before .before .args in gives _ _ _ (c .read-past .ensures) (walked (a .s .now) (a .j) (omega arith) (going-past (c .before .before .before .before .before .before .loop .inv) (omega arith) (c .before .before .before .before .find-box .ensures) (c .before .before .found2 .given .1)))
+returns-5 c = let a = c .before .before .before .before .before .before .before .before .before .args in file-read _ _ _ (gives _ _ _ (c .read-past .ensures) (walked (a .s .now) (a .j) (omega arith) (going-past (c .before .before .before .before .before .before .loop .inv) (omega arith) (c .before .before .before .before .find-box .ensures) (c .before .before .found2 .given .1))))
 
 enum-known-found-3 : tie.Need-enum-known-found-3 Inv-loop μ-loop
 enum-known-found-3 c = search needs
@@ -83,7 +84,7 @@ refuse-requires-3 : tie.Need-refuse-requires-3 Inv-loop μ-loop
 refuse-requires-3 c κs = tt
 
 returns-6 : tie.Need-returns-6 Inv-loop μ-loop
-returns-6 c = let a = c .before .before .before .before .before .before .before .before .before .before .before .before .before .args in gives _ _ _ (c .refuse3 .ensures) (walked (a .s .now) (a .j) (omega (arith, c .before .before .before .before .before .before .before .before .before .before .before .if1 .left)) (going-down (c .before .before .before .before .before .before .before .before .before .before .loop .inv) (omega arith) (c .before .before .before .before .before .before .before .before .find-box .ensures) (c .before .before .before .before .before .before .found3 .given .1) (c .before .before .before .before .read-whole .ensures) (c .before .before .answer .given .1)))
+returns-6 c = let a = c .before .before .before .before .before .before .before .before .before .before .before .before .before .args in file-read _ _ _ (gives _ _ _ (c .refuse3 .ensures) (walked (a .s .now) (a .j) (omega (arith, c .before .before .before .before .before .before .before .before .before .before .before .if1 .left)) (going-down (c .before .before .before .before .before .before .before .before .before .before .loop .inv) (omega arith) (c .before .before .before .before .before .before .before .before .find-box .ensures) (c .before .before .before .before .before .before .found3 .given .1) (c .before .before .before .before .read-whole .ensures) (c .before .before .answer .given .1))))
 
 enum-told-3 : tie.Need-enum-told-3 Inv-loop μ-loop
 enum-told-3 c = search needs
@@ -116,7 +117,7 @@ ended-requires-2 : tie.Need-ended-requires-2 Inv-loop μ-loop
 ended-requires-2 c κs = tt
 
 returns-7 : tie.Need-returns-7 Inv-loop μ-loop
-returns-7 c = let a = c .before .before .before .before .before .args in gives-end (a .j) _ _ (c .ended2 .ensures) (walked (a .s .now) (a .j) (omega arith) (going-end (c .before .before .loop .inv) (omega arith)))
+returns-7 c = let a = c .before .before .before .before .before .args in file-read _ _ _ (gives-end (a .j) _ _ (c .ended2 .ensures) (walked (a .s .now) (a .j) (omega arith) (going-end (c .before .before .loop .inv) (omega arith))))
 
 pub opj-jp2-read-header-procedure-spec : {M : Type 1} → statement M
 opj-jp2-read-header-procedure-spec =

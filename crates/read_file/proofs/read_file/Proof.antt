@@ -2,7 +2,9 @@
 -- Assumes nothing.
 use mathlib.Core.Path.{ap, _∙_}
 use Rattle.read_record.specs.declared.Jp2.{Jp2}
-use Rattle.read_file.specs.File.{walk, reading}
+use Rattle.read_record.specs.Record.{blank}
+use Rattle.read_rules.specs.File.{walk, reading}
+use Rattle.read_rules.proofs.Cuts.{whatever-was-lost}
 use Rattle.read_file.proofs.read_file.Statement.{statement}
 use Rattle.read_file.proofs.read_file.Tie as tie
 
@@ -13,7 +15,10 @@ opj-jp2-read-header-procedure-requires : tie.Need-opj-jp2-read-header-procedure-
 opj-jp2-read-header-procedure-requires c κs = tt
 
 returns : tie.Need-returns
-returns c = c .opj-jp2-read-header-procedure .ensures ∙ ap (λ (j : Jp2). reading j (walk (c .before .before .before .args .s .now) j)) (c .before .opj-jp2-create .ensures)
+returns c =
+    let s = c .before .before .before .args .s .now in
+    let e = c .opj-jp2-read-header-procedure .ensures .exact ∙ ap (λ (j : Jp2). reading j (walk s j)) (c .before .opj-jp2-create .ensures) in
+    (e, whatever-was-lost s blank _ e)
 
 pub read-file-spec : {M : Type 1} → statement M
 read-file-spec =

@@ -4,7 +4,7 @@ use native.Mathlib.Omega.{arith}
 use mathlib.Core.Path.{refl, ap}
 use Rattle.box_number.proofs.Rows.{row}
 use Rattle.box_kind.specs.Kind.{tag}
-use Rattle.read_file.specs.File.{outer}
+use Rattle.read_rules.specs.File.{outer}
 use Rattle.read_file.proofs.Turns.{freed, outer-header, outer-other}
 use borrow.Author.Needs.{needs}
 use Rattle.read_file.proofs.read_outer.Statement.{statement}

@@ -5,8 +5,8 @@ use mathlib.Core.Path.{refl, sym, ap, _∙_}
 use Rattle.box_number.proofs.Rows.{row, said}
 use Rattle.read_record.specs.Answer.{Result}
 use Rattle.read_record.proofs.Told.{answer-done, answer-refused}
-use Rattle.read_file.specs.File.{ended, thenWalk, other}
-use Rattle.read_file.specs.Private.Turn.{boxAt, isRead}
+use Rattle.read_rules.specs.File.{isRead, ended, thenWalk, other}
+use Rattle.read_file.specs.Private.Turn.{boxAt}
 use Rattle.read_file.proofs.Turns.{gives, gives-end}
 use borrow.Author.Needs.{needs}
 use Rattle.read_file.proofs.read_past.Statement.{statement}

@@ -5,7 +5,7 @@ use mathlib.Core.Path.{refl}
 use Rattle.box_number.proofs.Rows.{row}
 use Rattle.read_record.specs.Record.{withState}
 use Rattle.read_record.specs.State.{withBit}
-use Rattle.read_file.specs.File.{codestream, reading}
+use Rattle.read_rules.specs.File.{codestream, reading}
 use Rattle.read_file.proofs.Turns.{gives}
 use Rattle.read_file.proofs.read_stream.Statement.{statement}
 use Rattle.read_file.proofs.read_stream.Tie as tie

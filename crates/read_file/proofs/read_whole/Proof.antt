@@ -6,7 +6,7 @@ use Rattle.box_number.specs.Number.{part}
 use Rattle.box_number.proofs.Numbers.{part-most}
 use Rattle.box_header.proofs.Headers.{part-content}
 use Rattle.read_jp2h.specs.Split.{Box}
-use Rattle.read_file.specs.File.{outer}
+use Rattle.read_rules.specs.File.{outer}
 use Rattle.read_file.proofs.Turns.{freed, whole-box, heads-long, heads-head}
 use borrow.Author.Needs.{needs}
 use Rattle.read_file.proofs.read_whole.Statement.{statement}

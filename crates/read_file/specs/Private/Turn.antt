@@ -4,7 +4,7 @@ use mathlib.Core.Path.{_≡_}
 use mathlib.Core.List.{List, []}
 use lib.ListN.{length}
 use Rattle.box_number.specs.Table.{Test, _=?_, _≠?_, _<?_, _or_, _and_, otherwise, _⇒_∣_, table}
-use Rattle.box_kind.specs.Kind.{kindOf, tag, _is_, isFileHeader, isImageHeader}
+use Rattle.box_kind.specs.Kind.{kindOf, tag, _is_}
 use Rattle.box_kind.specs.declared.Jp2BoxType.{Jp2BoxType}
 use Rattle.box_kind.specs.declared.Jp2BoxType.the-variants.{JP2H, JP2C}
 use Rattle.box_header.specs.Box.{largest, TBox, headerLength, boxLength, headerOf}
@@ -40,10 +40,6 @@ boxWith kind place start content = record { kind = kind; place = place; start = 
 -- a box whose content is not read
 abbrev pub boxAt : Jp2BoxType → ℕ → ℕ → Box
 boxAt kind place start = boxWith kind place start []
-
--- a kind of box that is read, in the file or in jp2h
-abbrev pub isRead : Jp2BoxType → Test
-isRead kind = isFileHeader kind or isImageHeader kind
 
 -- a box outside jp2h before the header bit is set
 abbrev pub isEarly : Jp2BoxType → ℕ → Test

@@ -31,7 +31,7 @@ returns c =
     let a = c .before .before .before .before .before .before .before .before .before .before .before .args in
     let w = c .before .before .before .before .before .before .write-boxes in
     let n = c .before .before .before .bytes-of in
-    let is = part-is (w .result) _ (n .ensures) (c .before .part .ensures) (c .read-file .ensures) in
+    let is = part-is (w .result) _ (n .ensures) (c .before .part .ensures) (c .read-file .ensures .0) in
     (w .ensures .0, (w .ensures .1, (is, comes-back (request (a .comps .now) (a .count) (a .x0) (a .y0) (a .x1) (a .y1) (a .space) (a .profile .now) (a .codestream) (length (a .d .now))) (a .d .now) (omega (arith, n .ensures)) (w .ensures .0) (w .ensures .1) is)))
 
 pub write-and-read-spec : {M : Type 1} → statement M

@@ -4,6 +4,7 @@ use mathlib.Core.List.{List}
 use lib.ListN.{length}
 use Rattle.box_number.specs.Table.{Test, _=?_, _<?_, _or_, _and_, otherwise, _⇒_∣_, table}
 use Rattle.box_kind.specs.Kind.{_is_, isFileHeader, isImageHeader}
+use Rattle.box_kind.specs.declared.Jp2BoxType.{Jp2BoxType}
 use Rattle.box_kind.specs.declared.Jp2BoxType.the-variants.{JP, FTYP, JP2H, JP2C}
 use Rattle.box_header.specs.Box.{largest}
 use Rattle.read_record.specs.declared.Jp2.{Jp2}
@@ -15,8 +16,8 @@ use Rattle.read_signature.specs.FileType.{fileType}
 use Rattle.read_jp2h.specs.Split.{Box, Boxes, noBytes, cut, highWord, toEnd, short, past, _▸_, boxes}
 use Rattle.read_jp2h.specs.Child.{child}
 use Rattle.read_jp2h.specs.Jp2h.{jp2h}
-use Rattle.read_file.specs.declared.FileAnswer.the-variants.{Codestream, Ended, Refused}
-use Rattle.read_file.specs.declared.Reading.{Reading}
+use Rattle.read_rules.specs.declared.FileAnswer.the-variants.{Codestream, Ended, Refused}
+use Rattle.read_rules.specs.declared.Reading.{Reading}
 
 -- the result of reading a file: the codestream's offset and the record, "ended" and the record, or a number and the place
 pub data Walked : Type 0 where
@@ -54,9 +55,13 @@ outer b k =
     ∣ isImageHeader (b .kind) ⇒ child b k
     ∣ otherwise (other b k))
 
+-- a kind of box that is read, in the file or in jp2h
+abbrev pub isRead : Jp2BoxType → Test
+isRead kind = isFileHeader kind or isImageHeader kind
+
 -- a box whose content reaches past the end: the file has ended there, unless the box is one that is read
 abbrev pub pastEnd : Box → Jp2 → Walked
-pastEnd b k = table (isFileHeader (b .kind) or isImageHeader (b .kind) ⇒ fileRefused 4 (b .place) ∣ otherwise (thenWalk (other b k) ended))
+pastEnd b k = table (isRead (b .kind) ⇒ fileRefused 4 (b .place) ∣ otherwise (thenWalk (other b k) ended))
 
 -- a box that lies in the file, and what comes after it
 abbrev pub whole : Box → Jp2 → (Jp2 → Walked) → Walked
