@@ -1,6 +1,6 @@
 -- One turn of the walk: what the file has at c decides how its boxes run.
 -- Assumes nothing.
-use Prim.Native.Nat.{ℕ, suc, _+_, _≤_, _<_}
+use Prim.Native.Nat.{ℕ, _+_, _≤_, _<_}
 use native.Mathlib.Omega.{arith}
 use mathlib.Core.Path.{_≡_, refl, sym, ap, subst, _∙_}
 use mathlib.Core.Bool.{true, false, not}
@@ -8,26 +8,27 @@ use mathlib.Core.List.{List, [], _∷_}
 use borrow.Author.Tests.{not-false}
 use types.Run.{OneOf}
 use denote.Enum.Declared.{tagOf}
-use lib.ListN.{length, drop, length-drop}
+use lib.ListN.{length, drop}
 use Rattle.box_number.specs.Number.{part}
-use Rattle.box_number.specs.Table.{_or_, holds}
+use Rattle.box_number.specs.Table.{_<?_, _or_, holds}
 use Rattle.box_number.proofs.Rows.{Says, row, each, either, said, not-both}
+use Rattle.box_number.proofs.Indices.{decide}
 use Rattle.box_kind.specs.Kind.{kindOf, tag, _is_, isImageHeader}
 use Rattle.box_header.specs.declared.Jp2BoxHeader.{Jp2BoxHeader}
-use Rattle.box_header.specs.Box.{largest, LBox, TBox, headerLength, boxLength, headerOf}
+use Rattle.box_header.specs.Box.{largest, headerLength, boxLength, headerOf}
 use Rattle.box_kind.specs.declared.Jp2BoxType.{Jp2BoxType}
 use Rattle.box_kind.proofs.Jp2BoxType.{the-type}
 use Rattle.box_kind.specs.declared.Jp2BoxType.the-variants.{None, JPIP, JP, FTYP, JP2H, IHDR, COLR, JP2C, URL, PCLR, CMAP, CDEF, DTBL, BPCC, JP2, RES, JP2I, XML, UUID, UINF, Unknown}
 use Rattle.box_kind.proofs.KindNumbers.{by-tag, not-named}
-use Rattle.box_header.proofs.Headers.{box-all}
 use Rattle.read_record.specs.declared.Jp2.{Jp2}
 use Rattle.read_record.specs.declared.Outcome.{Outcome}
 use Rattle.read_record.specs.Answer.{Result, accepted, refused, answer}
-use Rattle.read_jp2h.specs.Split.{Boxes, firstBox, split}
+use Rattle.read_jp2h.specs.Split.{firstBox, boxes}
 use Rattle.read_jp2h.specs.HeaderBox.{headerBox}
 use Rattle.read_jp2h.proofs.Ways.{box-child, box-jp2h}
-use Rattle.read_jp2h.proofs.Faults.{split-none}
 use Rattle.read_rules.specs.declared.Reading.{Reading}
+use Rattle.read_rules.specs.BoxByBox.{boxFrom}
+use Rattle.read_rules.proofs.Headers.{header-cut, header-high, header-there, box-by-box}
 use Rattle.read_file.specs.declared.Found.{Found}
 use Rattle.read_file.specs.declared.Found.the-variants.{Nothing, Codestream, Short, Past, Whole}
 use Rattle.read_rules.specs.File.{Walked, ended, fileRefused, thenWalk, stream, other, isRead, pastEnd, outer, run, reading}
@@ -112,130 +113,45 @@ outer-other kind place start c k h =
     let n = not-read kind h in
     row 5 _ (n .0 .0, (n .0 .1 .0, (n .0 .1 .1, ((λ i. absurd (not-both (isImageHeader kind) i (n .1))), (n .1, tt))))) refl
 
-then-same : (r : Result) (f g : Jp2 → Walked) → ((m : Jp2) → f m ≡ g m) → thenWalk r f ≡ thenWalk r g
-then-same (accepted m) f g h = h m
-then-same (refused n p) f g h = refl
+module _ (at : ℕ) (c : List ℕ) (k : Jp2) (some : 0 < length c) where
+  -- the boxes of c run to w
+  abbrev Runs : Walked → Type 0
+  Runs w = run (boxes at c) k ≡ w
 
-module _ (at : ℕ) (c : List ℕ) (k : Jp2) where
-  module _ (n : ℕ) (some : 0 < length c) where
-    -- the boxes of c run to w
-    abbrev Runs : Walked → Type 0
-    Runs w = run (split (suc n) at c) k ≡ w
+  not-none : length c ≡ 0 → ⊥
+  not-none z = omega arith
 
-    -- no header: the walk has ended
-    run-none : (headerLength c ≤ length c → largest < boxLength c) → Runs (ended k)
-    unfolding split run
-    run-none h = each (λ (bs : Boxes). run bs k ≡ ended k) _ ((λ z. refl), λ z. ((λ l. refl), λ l. ((λ m. refl), λ m. absurd (omega (arith, h l)))))
+  -- no header: the walk has ended
+  run-none : (headerLength c ≤ length c → largest < boxLength c) → Runs (ended k)
+  run-none h =
+      decide (length c <? headerLength c)
+      (λ l. box-by-box .file at c k ∙ rw (header-cut c not-none l))
+      (λ l. box-by-box .file at c k ∙ rw (header-high c not-none l (h l)))
 
-    module _ (a : headerLength c ≤ length c) (b : boxLength c ≤ largest) where
-      run-stream : tag (kindOf (TBox c)) ≡ tag JP2C → Runs (stream (firstBox at c) k)
-      unfolding split run
-      run-stream t =
-          each (λ (bs : Boxes). run bs k ≡ stream (firstBox at c) k) _ (
-            (λ z. absurd (omega arith)),
-            λ z. (
-              (λ l. absurd (omega arith)),
-              λ l. (
-                (λ m. absurd (omega arith)),
-                λ m. (
-                  (λ e. sym (row 0 _ t refl)),
-                  λ e. (
-                    (λ q. sym (row 0 _ t refl)),
-                    λ q.
-                        ((λ r. sym (row 0 _ t refl)), λ r. sym (row 0 _ t refl)),
-                  ),
-                ),
+  run-there : headerLength c ≤ length c → boxLength c ≤ largest → Runs (boxFrom at c k (headerOf c))
+  run-there a b = box-by-box .file at c k ∙ rw (header-there c not-none a b)
+
+  -- what the file has at c decides how the boxes of c run
+  abbrev pub Tells : Found → Type 0
+  Tells Nothing = Runs (ended k)
+  Tells (Codestream m) = (m ≤ length c) × Runs (stream (boxAt JP2C at (at + m)) k)
+  Tells Short = Runs (fileRefused 3 at)
+  Tells (Past h) = Runs (pastEnd (boxAt (h .ty) at 0) k)
+  Tells (Whole h) = (h ≡ headerOf c) × (headerLength c ≤ boxLength c) × (boxLength c ≤ length c) × Runs (thenWalk (outer (firstBox at c) k) (λ m. run (boxes (at + boxLength c) (drop (boxLength c) c)) m))
+
+  pub found-tells : {r f : Found} → r ≡ found c → r ≡ f → Tells f
+  unfolding found
+  found-tells e f =
+      subst Tells (sym e ∙ f)
+      (each Tells _ (
+        (λ h. run-none h),
+        λ h.
+            let there = run-there (h .0) (h .1) in (
+              (λ t. (h .0, there ∙ sym (row 0 _ t refl))),
+              λ t. (
+                (λ s. there ∙ sym (row 1 _ (t, s) refl)),
+                λ s.
+                    ((λ p. there ∙ sym (row 2 _ (t, (s, p)) refl)), λ p. (refl, s, p, there ∙ sym (row 3 _ (t, (s, (p, tt))) refl))),
               ),
             ),
-          )
-
-      module _ (t : tag (kindOf (TBox c)) ≡ tag JP2C → ⊥) where
-        run-short : boxLength c < headerLength c → Runs (fileRefused 3 at)
-        unfolding split run
-        run-short h =
-            each (λ (bs : Boxes). run bs k ≡ fileRefused 3 at) _ (
-              (λ z. absurd (omega arith)),
-              λ z. (
-                (λ l. absurd (omega arith)),
-                λ l. (
-                  (λ m. absurd (omega arith)),
-                  λ m. (
-                    (λ e. absurd (omega (arith, box-all c e))),
-                    λ e.
-                        ((λ q. sym (row 1 _ (t, tt) refl)), λ q. absurd (omega arith)),
-                  ),
-                ),
-              ),
-            )
-
-        run-past : headerLength c ≤ boxLength c → length c < boxLength c → Runs (pastEnd (firstBox at c) k)
-        unfolding split run
-        run-past g h =
-            each (λ (bs : Boxes). run bs k ≡ pastEnd (firstBox at c) k) _ (
-              (λ z. absurd (omega arith)),
-              λ z. (
-                (λ l. absurd (omega arith)),
-                λ l. (
-                  (λ m. absurd (omega arith)),
-                  λ m. (
-                    (λ e. absurd (omega (arith, box-all c e))),
-                    λ e. (
-                      (λ q. absurd (omega arith)),
-                      λ q.
-                          ((λ r. sym (row 1 _ (t, tt) refl)), λ r. absurd (omega arith)),
-                    ),
-                  ),
-                ),
-              ),
-            )
-
-        -- after the last box, which LBox 0 lets reach to the end, nothing is left
-        after-last : LBox c ≡ 0 → (m : Jp2) → ended m ≡ run (split n (at + boxLength c) (drop (boxLength c) c)) m
-        unfolding run
-        after-last e m = rw (split-none (at + boxLength c) (drop (boxLength c) c) n (rw length-drop (omega (arith, box-all c e))))
-
-        run-whole : headerLength c ≤ boxLength c → boxLength c ≤ length c
-            → Runs (thenWalk (outer (firstBox at c) k) (λ m. run (split n (at + boxLength c) (drop (boxLength c) c)) m))
-        unfolding split run
-        run-whole g h =
-            each (λ (bs : Boxes). run bs k ≡ thenWalk (outer (firstBox at c) k) (λ m. run (split n (at + boxLength c) (drop (boxLength c) c)) m)) _ (
-              (λ z. absurd (omega arith)),
-              λ z. (
-                (λ l. absurd (omega arith)),
-                λ l. (
-                  (λ m. absurd (omega arith)),
-                  λ m. (
-                    (λ e. sym (row 1 _ (t, tt) refl) ∙ then-same (outer (firstBox at c) k) ended (λ m. run (split n (at + boxLength c) (drop (boxLength c) c)) m) (after-last e)),
-                    λ e. (
-                      (λ q. absurd (omega arith)),
-                      λ q.
-                          ((λ r. absurd (omega arith)), λ r. sym (row 1 _ (t, tt) refl)),
-                    ),
-                  ),
-                ),
-              ),
-            )
-
-    -- what the file has at c decides how the boxes of c run
-    abbrev pub Tells : Found → Type 0
-    Tells Nothing = Runs (ended k)
-    Tells (Codestream m) = (m ≤ length c) × Runs (stream (boxAt JP2C at (at + m)) k)
-    Tells Short = Runs (fileRefused 3 at)
-    Tells (Past h) = Runs (pastEnd (boxAt (h .ty) at 0) k)
-    Tells (Whole h) = (h ≡ headerOf c) × (headerLength c ≤ boxLength c) × (boxLength c ≤ length c) × Runs (thenWalk (outer (firstBox at c) k) (λ m. run (split n (at + boxLength c) (drop (boxLength c) c)) m))
-
-    pub found-tells : {r f : Found} → r ≡ found c → r ≡ f → Tells f
-    unfolding found
-    found-tells e f =
-        subst Tells (sym e ∙ f)
-        (each Tells _ (
-          (λ h. run-none h),
-          λ h. (
-            (λ t. (h .0, run-stream (h .0) (h .1) t)),
-            λ t. (
-              (λ s. run-short (h .0) (h .1) t s),
-              λ s.
-                  ((λ p. run-past (h .0) (h .1) t s p), λ p. (refl, s, p, run-whole (h .0) (h .1) t s p)),
-            ),
-          ),
-        ))
+      ))

@@ -81,6 +81,7 @@ pub content-long : (c : List ℕ) → headerLength c ≤ boxLength c → boxLeng
 unfolding part
 content-long c least within = simp (length-take, length-drop) (omega arith)
 
+-- what comes after a box may be said in other words
 then-same : (r : Result) (f g : Jp2 → Walked) → ((m : Jp2) → f m ≡ g m) → thenWalk r f ≡ thenWalk r g
 then-same (accepted m) f g h = h m
 then-same (refused number place) f g h = refl

@@ -16,6 +16,7 @@ use Rattle.read_record.specs.Answer.{andThen}
 use Rattle.read_jp2h.specs.Split.{Boxes, noBytes, _▸_, firstBox, split, boxes}
 use Rattle.read_jp2h.specs.Child.{child}
 use Rattle.read_jp2h.specs.Jp2h.{readAll}
+use Rattle.read_jp2h.proofs.Faults.{split-none}
 use Rattle.read_rules.specs.File.{Walked, thenWalk, outer, whole, run, walk}
 use Rattle.read_rules.specs.BoxByBox.{childrenFrom, boxFrom, boxesFrom, BoxByBox}
 
@@ -61,20 +62,14 @@ module _ (c : List ℕ) where
   child-there : (length c ≡ 0 → ⊥) → headerLength c ≤ length c → boxLength c ≤ 4294967295 → (LBox c ≡ 0 → ⊥) → childHeader c ≡ Header (headerOf c)
   child-there some h l z = child-plain (omega (arith, header-least c)) z ∙ header-there some h l
 
--- no bytes, no boxes
-split-none : (n at : ℕ) (c : List ℕ) → length c ≡ 0 → split n at c ≡ noBytes
-unfolding split
-split-none zero at c z = refl
-split-none (suc n) at c z = sym (row 0 _ z refl)
-
 pub rest-less : (c : List ℕ) (n : ℕ) → headerLength c ≤ boxLength c → boxLength c ≤ length c → length c ≤ suc n → length (drop (boxLength c) c) ≤ n
 rest-less c n least within h = rw length-drop (omega (arith, header-least c))
 
 -- the split does not depend on the bound, where it is large enough
 pub split-enough : (n m at : ℕ) (c : List ℕ) → length c ≤ n → length c ≤ m → split n at c ≡ split m at c
 unfolding split
-split-enough zero m at c h l = sym (split-none m at c (omega arith))
-split-enough (suc n) zero at c h l = split-none (suc n) at c (omega arith)
+split-enough zero m at c h l = sym (split-none at c m (omega arith))
+split-enough (suc n) zero at c h l = split-none at c (suc n) (omega arith)
 split-enough (suc n) (suc m) at c h l =
     each (λ (bs : Boxes). bs ≡ split (suc m) at c) _ (
       (λ none. row 0 _ none refl),
@@ -148,7 +143,7 @@ module _ (at : ℕ) (c : List ℕ) (k : Jp2) where
             λ low. (
               (λ z.
                   let e = box-all c z in
-                  whole-by noBytes some head low (omega arith) (omega arith) (sym (split-none (length (drop (boxLength c) c)) (at + boxLength c) (drop (boxLength c) c) (rw length-drop (omega arith))))),
+                  whole-by noBytes some head low (omega arith) (omega arith) (sym (split-none (at + boxLength c) (drop (boxLength c) c) (length (drop (boxLength c) c)) (rw length-drop (omega arith))))),
               λ named. (
                 (λ short. rw (header-there c some head low) (each (λ (w : Walked). w ≡ boxFrom at c k (headerOf c)) _ ((λ s. row 0 _ s refl), λ s. row 1 _ (s, short) refl))),
                 λ least. (
