@@ -45,7 +45,7 @@ mod at {
 ///
 /// A file that was broken off, of which the whole reaches its codestream, gives the header of the whole once the header
 /// of the codestream's box is there. Before that it is read to the end of its last whole box, or refused with
-/// [`Cause::ContentPastFile`] at the box that is cut; and with no other number.
+/// [`Cause::ContentPastFile`](crate::Cause::ContentPastFile) at the box that is cut; and with no other number.
 ///
 /// ```
 /// use cuzhantir_jp2::{read, Cause};

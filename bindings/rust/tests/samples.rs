@@ -55,10 +55,17 @@ fn each_sample_that_is_broken_off_is_read_as_far_as_it_goes() {
             let in_header = cut.is_some_and(|place| length < place + 8);
             match read(&file[..length]) {
                 Ok(header) if length >= codestream => assert_eq!(*header.numbers(), whole),
-                Ok(header) => assert!(in_header && header.codestream().is_none(), "{name} {length}"),
+                Ok(header) => assert!(
+                    in_header && header.codestream().is_none(),
+                    "{name} {length}"
+                ),
                 Err(refused) => {
                     let asked = (Cause::ContentPastFile, cut.map(|place| *place as u64));
-                    assert_eq!((refused.cause, Some(refused.place)), asked, "{name} {length}");
+                    assert_eq!(
+                        (refused.cause, Some(refused.place)),
+                        asked,
+                        "{name} {length}"
+                    );
                     assert!(!in_header && length < codestream, "{name} {length}");
                 }
             }
