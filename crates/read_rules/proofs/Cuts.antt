@@ -21,7 +21,7 @@ use Rattle.read_jp2h.specs.Split.{Box, Boxes, noBytes, cut, highWord, toEnd, sh
 use Rattle.read_rules.specs.declared.Reading.{Reading}
 use Rattle.read_rules.specs.File.{Walked, codestream, ended, fileRefused, thenWalk, isStream, stream, other, isRead, pastEnd, outer, whole, run, walk, reading}
 use Rattle.read_rules.specs.Beginnings.{endOf, shortened, runTo}
-use Rattle.read_rules.specs.CutTransfers.{before, firstCut, ButState, CutShort, asWhole, endedWith, fourAt, CutTransfers, WhateverWasLost, FileRead, lengthZero, NoLengthZeroBefore}
+use Rattle.read_rules.specs.CutTransfers.{before, firstCut, ButState, CutShort, asWhole, endedWith, fourAt, NothingElse, CutTransfers, WhateverWasLost, FileRead, lengthZero, NoLengthZeroBefore}
 use Rattle.read_rules.proofs.Headers.{box-by-box}
 use Rattle.read_rules.proofs.Beginnings.{content-long, beginnings}
 
@@ -213,6 +213,11 @@ not-long f j {offset} {m} = each (λ (w : Walked). w ≡ codestream offset m →
 
 boxes-reach : (f : List ℕ) (j : Jp2) {offset : ℕ} {m : Jp2} → walk f j ≡ codestream offset m → run (boxes 0 f) j ≡ codestream offset m
 boxes-reach f j e = sym (box-by-box .start f j (not-long f j e)) ∙ e
+
+pub nothing-else : NothingElse
+nothing-else bs j offset m n w (asWhole l) = (l, refl, refl)
+nothing-else bs j offset m n w (endedWith l k x p q) = (l, (k, p, q))
+nothing-else bs j offset m n w (fourAt l b p h q) = (l, refl, (b, p, refl))
 
 pub cut-transfers : CutTransfers
 cut-transfers f j offset m e n few = subst (CutShort (boxes 0 f) j offset m n) (sym (beginnings f j n (not-long f j e) few)) (cuts offset m n (boxes 0 f) 0 j (ordered (length f) 0 f) (boxes-reach f j e) .1)

@@ -47,6 +47,15 @@ pub data CutShort (bs : Boxes) (j : Jp2) (offset : ℕ) (m : Jp2) (n : ℕ) : Wa
   -- 4, at the first box that is not wholly there, which is one that is read and has its header there
   fourAt : n < offset → (b : Box) → firstCut n bs ≡ b ∷ [] → b .start ≤ n → Says true (isRead (b .kind)) → CutShort bs j offset m n (fileRefused 4 (b .place))
 
+-- What each of the three says, by the answer: no other offset, no other record and no other number
+abbrev pub CutSays : Boxes → Jp2 → ℕ → Jp2 → ℕ → Walked → Type 0
+CutSays bs j offset m n (codestream o r) = (offset ≤ n) × (o ≡ offset) × (r ≡ m)
+CutSays bs j offset m n (ended l) = (n < offset) × ((k : Jp2) × (run (before n bs) j ≡ ended k) × ButState k l)
+CutSays bs j offset m n (fileRefused number place) = (n < offset) × (number ≡ 4) × ((b : Box) × (firstCut n bs ≡ b ∷ []) × (b .place ≡ place))
+
+abbrev pub NothingElse : Type 0
+NothingElse = (bs : Boxes) (j : Jp2) (offset : ℕ) (m : Jp2) (n : ℕ) (w : Walked) → CutShort bs j offset m n w → CutSays bs j offset m n w
+
 -- every beginning of every such file, whatever record it is read from
 abbrev pub CutTransfers : Type 0
 CutTransfers = (f : List ℕ) (j : Jp2) (offset : ℕ) (m : Jp2) → walk f j ≡ codestream offset m → (n : ℕ) → n ≤ length f → CutShort (boxes 0 f) j offset m n (walk (take n f) j)
