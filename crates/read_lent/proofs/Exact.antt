@@ -9,4 +9,6 @@ pub one-outcome : OneOutcome
 one-outcome a b j k o e f = (ap (λ (r : Outcome). r .answer) (e ∙ sym f), ap (λ (r : Outcome). r .jp2) (e ∙ sym f))
 
 pub one-reading : OneReading
-one-reading a b j k o e f = (ap (λ (r : Reading). r .answer) (e ∙ sym f), ap (λ (r : Reading). r .jp2) (e ∙ sym f))
+one-reading a b j k s i p q =
+    let e = p .exact ∙ sym (q .exact) in
+    (ap (λ (r : Reading). r .answer) e, ap (λ (r : Reading). r .jp2) e)
