@@ -30,7 +30,7 @@ use numbers::READING_LENGTH;
 const TOO_SHORT: u32 = 30;
 
 // Reads a file and gives the 44 numbers of its reading. Where reading has no room for them nothing is done.
-// The last clause is request R-1: where the file was broken off, the numbers are right of the whole.
+// The last clause is request R-1: where the file was broken off, the numbers agree with the whole file.
 #[no_mangle]
 pub extern "C" fn cuzhantir_read(file: &[u8], reading: &mut [u64]) -> u32
     ensures { λ r. ⌜ r ≡ room readingLength (now (reading .entry)) 30 (refusalNumber ((jp2.reading blank (jp2.read (now (file .entry)))) .answer)) ⌝ }

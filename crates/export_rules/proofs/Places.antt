@@ -11,6 +11,6 @@ pub places-right : (r : Reading) → PlacesRight r
 places-right r = go (r .answer) (r .jp2)
   where
     go : (a : FileAnswer) (j : Jp2) → PlacesRight (record { answer = a; jp2 = j })
-    go (Codestream offset) j = record { answer = refl; pclr = (refl, (refl, refl)); cmap = (refl, refl); cdef = (refl, refl); long = refl }
-    go Ended j = record { answer = refl; pclr = (refl, (refl, refl)); cmap = (refl, refl); cdef = (refl, refl); long = refl }
-    go (Refused number at) j = record { answer = refl; pclr = (refl, (refl, refl)); cmap = (refl, refl); cdef = (refl, refl); long = refl }
+    go (Codestream offset) j = record { answer = refl; pclr = (refl, (refl, refl)); cmap = (refl, refl); cdef = (refl, refl); status = refl; long = refl }
+    go Ended j = record { answer = refl; pclr = (refl, (refl, refl)); cmap = (refl, refl); cdef = (refl, refl); status = refl; long = refl }
+    go (Refused number at) j = record { answer = refl; pclr = (refl, (refl, refl)); cmap = (refl, refl); cdef = (refl, refl); status = refl; long = refl }

@@ -12,7 +12,7 @@ use Rattle.read_record.specs.declared.Jp2.{Jp2}
 use Rattle.read_rules.specs.declared.FileAnswer.{FileAnswer}
 use Rattle.read_rules.specs.declared.FileAnswer.the-variants.{Codestream, Ended, Refused}
 use Rattle.read_rules.specs.declared.Reading.{Reading}
-use Rattle.export_rules.specs.Places.{kind, value, place, pclrPlace, pclrEntries, pclrColumns, cmapPlace, cmapCount, cdefPlace, cdefCount, readingLength, readingCodestream, readingEnded, readingRefused}
+use Rattle.export_rules.specs.Places.{kind, value, place, pclrPlace, pclrEntries, pclrColumns, cmapPlace, cmapCount, cdefPlace, cdefCount, state, readingLength, readingCodestream, readingEnded, readingRefused}
 
 -- 0 to 2: 0 and the codestream's offset; 1 for "ended"; 2, document 01's number and the place
 abbrev pub ofAnswer : FileAnswer → List ℕ
@@ -94,4 +94,5 @@ pub record PlacesRight (r : Reading) : Type 0 where
   pub pclr : (getD (numbers r) pclrPlace 0 ≡ r .jp2 .lists .pclr .place) × ((getD (numbers r) pclrEntries 0 ≡ r .jp2 .lists .pclr .entries) × (getD (numbers r) pclrColumns 0 ≡ r .jp2 .lists .pclr .columns))
   pub cmap : (getD (numbers r) cmapPlace 0 ≡ r .jp2 .lists .cmap .place) × (getD (numbers r) cmapCount 0 ≡ r .jp2 .lists .cmap .count)
   pub cdef : (getD (numbers r) cdefPlace 0 ≡ r .jp2 .lists .cdef .place) × (getD (numbers r) cdefCount 0 ≡ r .jp2 .lists .cdef .count)
+  pub status : getD (numbers r) state 0 ≡ r .jp2 .status .state
   pub long : length (numbers r) ≡ readingLength

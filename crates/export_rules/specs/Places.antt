@@ -1,7 +1,7 @@
 -- The positions of the numbers in the two lists that the exports give. include/cuzhantir_jp2.h has the same names and positions.
 use Prim.Native.Nat.{ℕ}
 
--- A reading. Numbers.antt has all 44 in their order; named here are those that finishing looks at.
+-- A reading. Numbers.antt has all 44 in their order; named here are those that finishing looks at, and the state.
 abbrev pub kind : ℕ
 kind = 0
 
@@ -31,6 +31,9 @@ cdefPlace = 38
 
 abbrev pub cdefCount : ℕ
 cdefCount = 39
+
+abbrev pub state : ℕ
+state = 40
 
 abbrev pub readingLength : ℕ
 readingLength = 44

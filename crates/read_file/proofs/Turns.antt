@@ -10,9 +10,8 @@ use types.Run.{OneOf}
 use denote.Enum.Declared.{tagOf}
 use lib.ListN.{length, drop}
 use Rattle.box_number.specs.Number.{part}
-use Rattle.box_number.specs.Table.{_<?_, _or_, holds}
+use Rattle.box_number.specs.Table.{_or_, holds}
 use Rattle.box_number.proofs.Rows.{Says, row, each, either, said, not-both}
-use Rattle.box_number.proofs.Indices.{decide}
 use Rattle.box_kind.specs.Kind.{kindOf, tag, _is_, isImageHeader}
 use Rattle.box_header.specs.declared.Jp2BoxHeader.{Jp2BoxHeader}
 use Rattle.box_header.specs.Box.{largest, headerLength, boxLength, headerOf}
@@ -27,8 +26,7 @@ use Rattle.read_jp2h.specs.Split.{firstBox, boxes}
 use Rattle.read_jp2h.specs.HeaderBox.{headerBox}
 use Rattle.read_jp2h.proofs.Ways.{box-child, box-jp2h}
 use Rattle.read_rules.specs.declared.Reading.{Reading}
-use Rattle.read_rules.specs.BoxByBox.{boxFrom}
-use Rattle.read_rules.proofs.Headers.{header-cut, header-high, header-there, box-by-box}
+use Rattle.read_rules.proofs.Headers.{run-missing, run-there}
 use Rattle.read_file.specs.declared.Found.{Found}
 use Rattle.read_file.specs.declared.Found.the-variants.{Nothing, Codestream, Short, Past, Whole}
 use Rattle.read_rules.specs.File.{Walked, ended, fileRefused, thenWalk, stream, other, isRead, pastEnd, outer, run, reading}
@@ -121,16 +119,6 @@ module _ (at : ℕ) (c : List ℕ) (k : Jp2) (some : 0 < length c) where
   not-none : length c ≡ 0 → ⊥
   not-none z = omega arith
 
-  -- no header: the walk has ended
-  run-none : (headerLength c ≤ length c → largest < boxLength c) → Runs (ended k)
-  run-none h =
-      decide (length c <? headerLength c)
-      (λ l. box-by-box .file at c k ∙ rw (header-cut c not-none l))
-      (λ l. box-by-box .file at c k ∙ rw (header-high c not-none l (h l)))
-
-  run-there : headerLength c ≤ length c → boxLength c ≤ largest → Runs (boxFrom at c k (headerOf c))
-  run-there a b = box-by-box .file at c k ∙ rw (header-there c not-none a b)
-
   -- what the file has at c decides how the boxes of c run
   abbrev pub Tells : Found → Type 0
   Tells Nothing = Runs (ended k)
@@ -144,9 +132,9 @@ module _ (at : ℕ) (c : List ℕ) (k : Jp2) (some : 0 < length c) where
   found-tells e f =
       subst Tells (sym e ∙ f)
       (each Tells _ (
-        (λ h. run-none h),
+        (λ h. run-missing at c k not-none h),
         λ h.
-            let there = run-there (h .0) (h .1) in (
+            let there = run-there at c k not-none (h .0) (h .1) in (
               (λ t. (h .0, there ∙ sym (row 0 _ t refl))),
               λ t. (
                 (λ s. there ∙ sym (row 1 _ (t, s) refl)),

@@ -20,7 +20,7 @@ use Rattle.read_jp2h.specs.Split.{firstBox, boxes}
 use Rattle.read_file.specs.declared.Found.{Found}
 use Rattle.read_file.specs.declared.Found.the-variants.{Nothing, Codestream, Short, Past, Whole}
 use Rattle.read_rules.specs.File.{Walked, ended, fileRefused, stream, pastEnd, outer, run, walk}
-use Rattle.read_rules.proofs.Headers.{header-none, box-by-box}
+use Rattle.read_rules.proofs.Headers.{run-none}
 use Rattle.read_file.specs.Private.Turn.{found, Heads, boxAt}
 use Rattle.read_file.proofs.Turns.{heads-long, found-tells}
 
@@ -38,7 +38,7 @@ module _ {w : Walked} {at : ℕ} {c : List ℕ} {k : Jp2} (g : Going w at c k) w
   runs-to h = sym h ∙ g .same
 
   pub going-end : length c ≡ 0 → ended k ≡ w
-  going-end z = runs-to (box-by-box .file at c k ∙ rw (header-none c z))
+  going-end z = runs-to (run-none at c k z)
 
   module _ (some : 0 < length c) {r : Found} (e : r ≡ found c) where
     pub going-none : r ≡ Nothing → ended k ≡ w

@@ -219,7 +219,7 @@ fn read_whole(c: &[u8], at: u32, h: Jp2BoxHeader, k: Jp2) -> Outcome
     read_outer(ty, content, at, start, k)
 }
 
-// A file, read from a record on. The promise has request R-1 beside the result: where the file was broken off, it is right of the whole. `find_box` has no record, so that a turn copies it no more often than its reader does.
+// A file, read from a record on. The promise has the result, and request R-1: where the file was broken off, the result agrees with the whole file. `find_box` has no record, so that a turn copies it no more often than its reader does.
 pub fn opj_jp2_read_header_procedure(s: &[u8], j: Jp2) -> Reading
     ensures { λ r. ⌜ FileRead (now (s .entry)) j r ⌝ }
 {

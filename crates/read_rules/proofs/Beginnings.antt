@@ -19,10 +19,10 @@ use Rattle.read_record.specs.declared.Jp2.{Jp2}
 use Rattle.read_record.specs.Answer.{Result, accepted, refused}
 use Rattle.read_jp2h.specs.Split.{Box, Boxes, toEnd, firstBox, split, boxes}
 use Rattle.read_rules.specs.File.{Walked, ended, fileRefused, thenWalk, isStream, stream, pastEnd, outer, whole, run, walk}
-use Rattle.read_rules.specs.BoxByBox.{boxFrom, boxesFrom}
+use Rattle.read_rules.specs.BoxByBox.{boxFrom}
 use Rattle.read_rules.specs.Beginnings.{endOf, shortened, runTo, Beginnings}
 use Rattle.read_rules.proofs.Sames.{Same, within, number-same}
-use Rattle.read_rules.proofs.Headers.{header-none, header-cut, header-high, header-there, split-enough, rest-less, box-by-box}
+use Rattle.read_rules.proofs.Headers.{split-enough, rest-less, box-by-box, run-none, run-missing, run-there}
 
 -- the first n bytes of c, which has so many
 module _ (c : List ℕ) (n : ℕ) (few : n ≤ length c) where
@@ -91,9 +91,6 @@ module _ (at : ℕ) (c : List ℕ) (k : Jp2) (n : ℕ) (few : n ≤ length c) wh
   abbrev Runs : Walked → Type 0
   Runs w = run (boxes at (take n c)) k ≡ w
 
-  by-header : boxesFrom at (take n c) k ≡ ended k → Runs (ended k)
-  by-header e = box-by-box .file at (take n c) k ∙ e
-
   -- no whole header
   cut-there : n < headerLength c → length (take n c) < headerLength (take n c)
   cut-there h =
@@ -104,8 +101,8 @@ module _ (at : ℕ) (c : List ℕ) (k : Jp2) (n : ℕ) (few : n ≤ length c) wh
   runs-none : n < headerLength c → Runs (ended k)
   runs-none h =
       decide (n =? 0)
-      (λ z. by-header (rw (header-none (take n c) (long c n few ∙ z))))
-      (λ z. by-header (rw (header-cut (take n c) (λ e. z (sym (long c n few) ∙ e)) (cut-there h))))
+      (λ z. run-none at (take n c) k (long c n few ∙ z))
+      (λ z. run-missing at (take n c) k (λ e. z (sym (long c n few) ∙ e)) (λ l. absurd (omega (arith, cut-there h))))
 
   module _ (h : headerLength c ≤ n) where
     eight : 8 ≤ n
@@ -118,11 +115,11 @@ module _ (at : ℕ) (c : List ℕ) (k : Jp2) (n : ℕ) (few : n ≤ length c) wh
     there = omega (arith, long c n few, header-same c n few eight)
 
     runs-high : largest < boxLength (take n c) → Runs (ended k)
-    runs-high l = by-header (rw (header-high (take n c) some there l))
+    runs-high l = run-missing at (take n c) k some (λ _. l)
 
     module _ (low : boxLength (take n c) ≤ largest) where
       runs-there : Runs (boxFrom at (take n c) k (headerOf (take n c)))
-      runs-there = box-by-box .file at (take n c) k ∙ rw (header-there (take n c) some there low)
+      runs-there = run-there at (take n c) k some there low
 
       runs-stream : Says true (isStream (firstBox at c)) → Runs (stream (firstBox at c) k)
       runs-stream s = runs-there ∙ sym (row 0 _ (ap (λ (t : ℕ). tag (kindOf t)) (type-same c n few eight) ∙ s) (rw (header-same c n few eight)))

@@ -21,7 +21,7 @@ use Rattle.read_jp2h.specs.Split.{Box, Boxes, noBytes, cut, highWord, toEnd, sh
 use Rattle.read_rules.specs.declared.Reading.{Reading}
 use Rattle.read_rules.specs.File.{Walked, codestream, ended, fileRefused, thenWalk, isStream, stream, other, isRead, pastEnd, outer, whole, run, walk, reading}
 use Rattle.read_rules.specs.Beginnings.{endOf, shortened, runTo}
-use Rattle.read_rules.specs.CutTransfers.{before, firstCut, ButState, CutShort, asWhole, endedWith, fourAt, NothingElse, CutTransfers, WhateverWasLost, FileRead, lengthZero, NoLengthZeroBefore}
+use Rattle.read_rules.specs.CutTransfers.{before, firstCut, ButState, FieldByField, CutShort, asWhole, endedWith, fourAt, NothingElse, CutTransfers, WhateverWasLost, FileRead, lengthZero, NoLengthZeroBefore}
 use Rattle.read_rules.proofs.Headers.{box-by-box}
 use Rattle.read_rules.proofs.Beginnings.{content-long, beginnings}
 
@@ -214,10 +214,24 @@ not-long f j {offset} {m} = each (λ (w : Walked). w ≡ codestream offset m →
 boxes-reach : (f : List ℕ) (j : Jp2) {offset : ℕ} {m : Jp2} → walk f j ≡ codestream offset m → run (boxes 0 f) j ≡ codestream offset m
 boxes-reach f j e = sym (box-by-box .start f j (not-long f j e)) ∙ e
 
+field-by-field : (k l : Jp2) → ButState k l → FieldByField k l
+field-by-field k l b =
+    let e = b .fields in
+    record {
+      image = ap (λ (x : Jp2). x .image) e;
+      colour = ap (λ (x : Jp2). x .colour) e;
+      filetype = ap (λ (x : Jp2). x .filetype) e;
+      lists = ap (λ (x : Jp2). x .lists) e;
+      imgstate = ap (λ (x : Jp2). x .status .imgstate) e;
+      hasjp2h = ap (λ (x : Jp2). x .status .hasjp2h) e;
+      hasihdr = ap (λ (x : Jp2). x .status .hasihdr) e;
+      state = b .state;
+    }
+
 pub nothing-else : NothingElse
 nothing-else bs j offset m n w (asWhole l) = (l, refl, refl)
-nothing-else bs j offset m n w (endedWith l k x p q) = (l, (k, p, q))
-nothing-else bs j offset m n w (fourAt l b p h q) = (l, refl, (b, p, refl))
+nothing-else bs j offset m n w (endedWith l k x p q) = (l, (k, p, field-by-field k x q))
+nothing-else bs j offset m n w (fourAt l b p h q) = (l, refl, (b, p, refl, h, q))
 
 pub cut-transfers : CutTransfers
 cut-transfers f j offset m e n few = subst (CutShort (boxes 0 f) j offset m n) (sym (beginnings f j n (not-long f j e) few)) (cuts offset m n (boxes 0 f) 0 j (ordered (length f) 0 f) (boxes-reach f j e) .1)

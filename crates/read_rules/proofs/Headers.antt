@@ -17,24 +17,24 @@ use Rattle.read_jp2h.specs.Split.{Boxes, noBytes, _▸_, firstBox, split, boxes
 use Rattle.read_jp2h.specs.Child.{child}
 use Rattle.read_jp2h.specs.Jp2h.{readAll}
 use Rattle.read_jp2h.proofs.Faults.{split-none}
-use Rattle.read_rules.specs.File.{Walked, thenWalk, outer, whole, run, walk}
+use Rattle.read_rules.specs.File.{Walked, ended, thenWalk, outer, whole, run, walk}
 use Rattle.read_rules.specs.BoxByBox.{childrenFrom, boxFrom, boxesFrom, BoxByBox}
 
 -- the header's answers
 module _ (c : List ℕ) where
-  pub header-none : length c ≡ 0 → header c ≡ NoBytes
+  header-none : length c ≡ 0 → header c ≡ NoBytes
   unfolding header
   header-none h = sym (row 0 _ h refl)
 
-  pub header-cut : (length c ≡ 0 → ⊥) → length c < headerLength c → header c ≡ Cut
+  header-cut : (length c ≡ 0 → ⊥) → length c < headerLength c → header c ≡ Cut
   unfolding header
   header-cut some h = sym (row 1 _ (some, h) refl)
 
-  pub header-high : (length c ≡ 0 → ⊥) → headerLength c ≤ length c → 4294967295 < boxLength c → header c ≡ HighWord
+  header-high : (length c ≡ 0 → ⊥) → headerLength c ≤ length c → 4294967295 < boxLength c → header c ≡ HighWord
   unfolding header
   header-high some h l = sym (row 2 _ (some, (h, l)) refl)
 
-  pub header-there : (length c ≡ 0 → ⊥) → headerLength c ≤ length c → boxLength c ≤ 4294967295 → header c ≡ Header (headerOf c)
+  header-there : (length c ≡ 0 → ⊥) → headerLength c ≤ length c → boxLength c ≤ 4294967295 → header c ≡ Header (headerOf c)
   unfolding header
   header-there some h l = sym (row 3 _ (some, (h, (l, tt))) refl)
 
@@ -163,3 +163,17 @@ start-by f j h = sym (row 1 _ (h, tt) refl)
 
 pub box-by-box : BoxByBox
 box-by-box = record { inside = λ at c k. inside-by at c k (length c) (omega arith); file = λ at c k. file-by at c k (length c) (omega arith); start = start-by }
+
+-- how the boxes of c run, by its first header: there are no bytes, the header is missing, or it is there
+module _ (at : ℕ) (c : List ℕ) (k : Jp2) where
+  pub run-none : length c ≡ 0 → run (boxes at c) k ≡ ended k
+  run-none z = box-by-box .file at c k ∙ rw (header-none c z)
+
+  pub run-missing : (length c ≡ 0 → ⊥) → (headerLength c ≤ length c → 4294967295 < boxLength c) → run (boxes at c) k ≡ ended k
+  run-missing some h =
+      decide (length c <? headerLength c)
+      (λ l. box-by-box .file at c k ∙ rw (header-cut c some l))
+      (λ l. box-by-box .file at c k ∙ rw (header-high c some l (h l)))
+
+  pub run-there : (length c ≡ 0 → ⊥) → headerLength c ≤ length c → boxLength c ≤ 4294967295 → run (boxes at c) k ≡ boxFrom at c k (headerOf c)
+  run-there some h low = box-by-box .file at c k ∙ rw (header-there c some h low)

@@ -1,10 +1,11 @@
 -- Request R-1: a picture that is broken off on the radio link. A file that reaches its codestream is cut anywhere, and what is there is read.
-use Prim.Native.Nat.{ℕ, _≤_, _<_}
+use Prim.Native.Nat.{ℕ, _+_, _*_, _/_, _≤_, _<_}
 use mathlib.Core.Path.{_≡_}
 use mathlib.Core.Bool.{true}
 use mathlib.Core.List.{List, [], _∷_, _++_}
 use lib.ListN.{length, take}
-use Rattle.box_number.specs.Table.{_<?_, otherwise, _⇒_∣_, Says, table}
+use Rattle.box_number.specs.Table.{_<?_, _or_, otherwise, _⇒_∣_, Says, table}
+use Rattle.box_kind.specs.Kind.{isFileHeader, isImageHeader}
 use Rattle.read_record.specs.declared.Jp2.{Jp2}
 use Rattle.read_record.specs.Record.{withState}
 use Rattle.read_record.specs.State.{unknown}
@@ -33,7 +34,7 @@ firstCut n (short b) = b ∷ []
 firstCut n (past b) = b ∷ []
 firstCut n (b ▸ bs) = table (n <? endOf b ⇒ b ∷ [] ∣ otherwise (firstCut n bs))
 
--- l has every field of k but the state, and the state of k too, or that with the unknown bits
+-- l is k in every field but the state. Its state is that of k, or that of k with the unknown bits set
 pub record ButState (k l : Jp2) : Type 0 where
   pub fields : withState 0 l ≡ withState 0 k
   pub state : (l .status .state ≡ k .status .state → ⊥) → l .status .state ≡ unknown (k .status .state)
@@ -47,11 +48,22 @@ pub data CutShort (bs : Boxes) (j : Jp2) (offset : ℕ) (m : Jp2) (n : ℕ) : Wa
   -- 4, at the first box that is not wholly there, which is one that is read and has its header there
   fourAt : n < offset → (b : Box) → firstCut n bs ≡ b ∷ [] → b .start ≤ n → Says true (isRead (b .kind)) → CutShort bs j offset m n (fileRefused 4 (b .place))
 
--- What each of the three says, by the answer: no other offset, no other record and no other number
+-- the same, field by field
+pub record FieldByField (k l : Jp2) : Type 0 where
+  pub image : l .image ≡ k .image
+  pub colour : l .colour ≡ k .colour
+  pub filetype : l .filetype ≡ k .filetype
+  pub lists : l .lists ≡ k .lists
+  pub imgstate : l .status .imgstate ≡ k .status .imgstate
+  pub hasjp2h : l .status .hasjp2h ≡ k .status .hasjp2h
+  pub hasihdr : l .status .hasihdr ≡ k .status .hasihdr
+  pub state : (l .status .state ≡ k .status .state → ⊥) → l .status .state ≡ k .status .state / 2147483648 * 2147483648 + 2147483647
+
+-- What each of the three says, by the answer and in other words: no other offset, no other record and no other number
 abbrev pub CutSays : Boxes → Jp2 → ℕ → Jp2 → ℕ → Walked → Type 0
 CutSays bs j offset m n (codestream o r) = (offset ≤ n) × (o ≡ offset) × (r ≡ m)
-CutSays bs j offset m n (ended l) = (n < offset) × ((k : Jp2) × (run (before n bs) j ≡ ended k) × ButState k l)
-CutSays bs j offset m n (fileRefused number place) = (n < offset) × (number ≡ 4) × ((b : Box) × (firstCut n bs ≡ b ∷ []) × (b .place ≡ place))
+CutSays bs j offset m n (ended l) = (n < offset) × ((k : Jp2) × (run (before n bs) j ≡ ended k) × FieldByField k l)
+CutSays bs j offset m n (fileRefused number place) = (n < offset) × (number ≡ 4) × ((b : Box) × (firstCut n bs ≡ b ∷ []) × (b .place ≡ place) × (b .start ≤ n) × Says true (isFileHeader (b .kind) or isImageHeader (b .kind)))
 
 abbrev pub NothingElse : Type 0
 NothingElse = (bs : Boxes) (j : Jp2) (offset : ℕ) (m : Jp2) (n : ℕ) (w : Walked) → CutShort bs j offset m n w → CutSays bs j offset m n w
@@ -64,7 +76,7 @@ CutTransfers = (f : List ℕ) (j : Jp2) (offset : ℕ) (m : Jp2) → walk f j �
 abbrev pub WhateverWasLost : List ℕ → Jp2 → Reading → Type 0
 WhateverWasLost s j r = (rest : List ℕ) (offset : ℕ) (m : Jp2) → walk (s ++ rest) j ≡ codestream offset m → (w : Walked) × (r ≡ reading j w) × CutShort (boxes 0 (s ++ rest)) j offset m (length s) w
 
--- the promise of reading s from j: the result, and R-1
+-- the promise of reading s from j: the result, and R-1 for whatever was lost behind s
 pub record FileRead (s : List ℕ) (j : Jp2) (r : Reading) : Type 0 where
   pub exact : r ≡ reading j (walk s j)
   pub cut : WhateverWasLost s j r
