@@ -4,6 +4,7 @@ ghost use lib.ListN.{length};
 ghost use Rattle.box_number.specs.Number.{placed};
 ghost use Rattle.read_record.specs.Record.{blank};
 ghost use Rattle.picture_rules.specs.Answers.{answered, recordsAfter, samplesAfter};
+ghost use Rattle.picture_rules.specs.Handed.{settings};
 ghost use Rattle.picture_rules.specs.Whole.{handed, pictured};
 ghost use Rattle.write_rules.specs.Writing.{write, destination};
 ghost use Rattle.write_rules.specs.Request.{request};
@@ -25,6 +26,7 @@ mod readings;
 use answers::ANSWER_LENGTH;
 use numbers::FILE_TYPE;
 use numbers::READING_LENGTH;
+use picture_rules::Settings;
 
 // The number of a destination that is too short.
 const TOO_SHORT: u32 = 30;
@@ -67,12 +69,13 @@ pub extern "C" fn cuzhantir_read(file: &[u8], reading: &mut [u64]) -> u32
     numbers::answer_number(answer)
 }
 
-// Reads a file, finishes its picture and gives the 4 numbers of the answer. Where answer has no room for them nothing is done.
-// The last clause is demand 3: where the answer is "done", every sample of the finished planes in the destinations is the right one, in whatever order the file has its definitions.
+// Reads a file, finishes its picture and gives the 4 numbers of the answer. Where answer has no room for them nothing is done. The flag edition2 picks the edition of the camera rules: 0 is edition 1, any other number edition 2.
+// The last clause is demand 3: where the answer is "done", every sample of the finished planes in the destinations is the right one, in whatever order the file has its definitions; and in edition 2 every mark is its own channel's.
 #[no_mangle]
 pub extern "C" fn cuzhantir_picture(
     file: &[u8],
     ignore: u32,
+    edition2: u32,
     comps: &[u32],
     count: u32,
     samples: &[i32],
@@ -80,16 +83,20 @@ pub extern "C" fn cuzhantir_picture(
     planes: &mut [i32],
     answer: &mut [u64],
 ) -> u32
-    ensures { λ r. ⌜ r ≡ room answerLength (now (answer .entry)) 30 (returned (ofFinished (answered (pictured (handed (now (file .entry)) ignore (now (comps .entry)) count (now (samples .entry)) (now (records .entry)) (now (planes .entry))))))) ⌝ }
-    ensures { λ _. ⌜ now (answer .exit) ≡ room answerLength (now (answer .entry)) (now (answer .entry)) (placed (now (answer .entry)) 0 (ofFinished (answered (pictured (handed (now (file .entry)) ignore (now (comps .entry)) count (now (samples .entry)) (now (records .entry)) (now (planes .entry))))))) ⌝ }
-    ensures { λ _. ⌜ now (records .exit) ≡ room answerLength (now (answer .entry)) (now (records .entry)) (recordsAfter (pictured (handed (now (file .entry)) ignore (now (comps .entry)) count (now (samples .entry)) (now (records .entry)) (now (planes .entry)))) (now (records .entry))) ⌝ }
-    ensures { λ _. ⌜ now (planes .exit) ≡ room answerLength (now (answer .entry)) (now (planes .entry)) (samplesAfter (pictured (handed (now (file .entry)) ignore (now (comps .entry)) count (now (samples .entry)) (now (records .entry)) (now (planes .entry)))) (now (planes .entry))) ⌝ }
-    ensures { λ _. ⌜ ToldRight (handed (now (file .entry)) ignore (now (comps .entry)) count (now (samples .entry)) (now (records .entry)) (now (planes .entry))) (now (answer .entry)) (now (answer .exit)) (now (records .exit)) (now (planes .entry)) (now (planes .exit)) ⌝ }
+    ensures { λ r. ⌜ r ≡ room answerLength (now (answer .entry)) 30 (returned (ofFinished (answered (pictured (handed (now (file .entry)) (settings ignore edition2) (now (comps .entry)) count (now (samples .entry)) (now (records .entry)) (now (planes .entry))))))) ⌝ }
+    ensures { λ _. ⌜ now (answer .exit) ≡ room answerLength (now (answer .entry)) (now (answer .entry)) (placed (now (answer .entry)) 0 (ofFinished (answered (pictured (handed (now (file .entry)) (settings ignore edition2) (now (comps .entry)) count (now (samples .entry)) (now (records .entry)) (now (planes .entry))))))) ⌝ }
+    ensures { λ _. ⌜ now (records .exit) ≡ room answerLength (now (answer .entry)) (now (records .entry)) (recordsAfter (pictured (handed (now (file .entry)) (settings ignore edition2) (now (comps .entry)) count (now (samples .entry)) (now (records .entry)) (now (planes .entry)))) (now (records .entry))) ⌝ }
+    ensures { λ _. ⌜ now (planes .exit) ≡ room answerLength (now (answer .entry)) (now (planes .entry)) (samplesAfter (pictured (handed (now (file .entry)) (settings ignore edition2) (now (comps .entry)) count (now (samples .entry)) (now (records .entry)) (now (planes .entry)))) (now (planes .entry))) ⌝ }
+    ensures { λ _. ⌜ ToldRight (handed (now (file .entry)) (settings ignore edition2) (now (comps .entry)) count (now (samples .entry)) (now (records .entry)) (now (planes .entry))) (now (answer .entry)) (now (answer .exit)) (now (records .exit)) (now (planes .entry)) (now (planes .exit)) ⌝ }
 {
     if answer.len() < ANSWER_LENGTH {
         return TOO_SHORT;
     }
-    let r = picture_finish::read_picture(file, ignore, comps, count, samples, records, planes);
+    let s = Settings {
+        ignore: ignore,
+        edition2: edition2,
+    };
+    let r = picture_finish::read_picture(file, s, comps, count, samples, records, planes);
     answers::give_finished(r, answer)
 }
 
@@ -100,6 +107,7 @@ pub extern "C" fn cuzhantir_finish(
     file: &[u8],
     reading: &[u64],
     ignore: u32,
+    edition2: u32,
     comps: &[u32],
     count: u32,
     samples: &[i32],
@@ -107,25 +115,20 @@ pub extern "C" fn cuzhantir_finish(
     planes: &mut [i32],
     answer: &mut [u64],
 ) -> u32
-    ensures { λ r. ⌜ r ≡ room answerLength (now (answer .entry)) 30 (returned (ofFinished (answered (finishReading (handed (now (file .entry)) ignore (now (comps .entry)) count (now (samples .entry)) (now (records .entry)) (now (planes .entry))) (now (reading .entry)))))) ⌝ }
-    ensures { λ _. ⌜ now (answer .exit) ≡ room answerLength (now (answer .entry)) (now (answer .entry)) (placed (now (answer .entry)) 0 (ofFinished (answered (finishReading (handed (now (file .entry)) ignore (now (comps .entry)) count (now (samples .entry)) (now (records .entry)) (now (planes .entry))) (now (reading .entry)))))) ⌝ }
-    ensures { λ _. ⌜ now (records .exit) ≡ room answerLength (now (answer .entry)) (now (records .entry)) (recordsAfter (finishReading (handed (now (file .entry)) ignore (now (comps .entry)) count (now (samples .entry)) (now (records .entry)) (now (planes .entry))) (now (reading .entry))) (now (records .entry))) ⌝ }
-    ensures { λ _. ⌜ now (planes .exit) ≡ room answerLength (now (answer .entry)) (now (planes .entry)) (samplesAfter (finishReading (handed (now (file .entry)) ignore (now (comps .entry)) count (now (samples .entry)) (now (records .entry)) (now (planes .entry))) (now (reading .entry))) (now (planes .entry))) ⌝ }
-    ensures { λ _. ⌜ (ReadingOf (now (file .entry)) (now (reading .entry)) → ToldRight (handed (now (file .entry)) ignore (now (comps .entry)) count (now (samples .entry)) (now (records .entry)) (now (planes .entry))) (now (answer .entry)) (now (answer .exit)) (now (records .exit)) (now (planes .entry)) (now (planes .exit))) ⌝ }
+    ensures { λ r. ⌜ r ≡ room answerLength (now (answer .entry)) 30 (returned (ofFinished (answered (finishReading (handed (now (file .entry)) (settings ignore edition2) (now (comps .entry)) count (now (samples .entry)) (now (records .entry)) (now (planes .entry))) (now (reading .entry)))))) ⌝ }
+    ensures { λ _. ⌜ now (answer .exit) ≡ room answerLength (now (answer .entry)) (now (answer .entry)) (placed (now (answer .entry)) 0 (ofFinished (answered (finishReading (handed (now (file .entry)) (settings ignore edition2) (now (comps .entry)) count (now (samples .entry)) (now (records .entry)) (now (planes .entry))) (now (reading .entry)))))) ⌝ }
+    ensures { λ _. ⌜ now (records .exit) ≡ room answerLength (now (answer .entry)) (now (records .entry)) (recordsAfter (finishReading (handed (now (file .entry)) (settings ignore edition2) (now (comps .entry)) count (now (samples .entry)) (now (records .entry)) (now (planes .entry))) (now (reading .entry))) (now (records .entry))) ⌝ }
+    ensures { λ _. ⌜ now (planes .exit) ≡ room answerLength (now (answer .entry)) (now (planes .entry)) (samplesAfter (finishReading (handed (now (file .entry)) (settings ignore edition2) (now (comps .entry)) count (now (samples .entry)) (now (records .entry)) (now (planes .entry))) (now (reading .entry))) (now (planes .entry))) ⌝ }
+    ensures { λ _. ⌜ (ReadingOf (now (file .entry)) (now (reading .entry)) → ToldRight (handed (now (file .entry)) (settings ignore edition2) (now (comps .entry)) count (now (samples .entry)) (now (records .entry)) (now (planes .entry))) (now (answer .entry)) (now (answer .exit)) (now (records .exit)) (now (planes .entry)) (now (planes .exit))) ⌝ }
 {
     if answer.len() < ANSWER_LENGTH {
         return TOO_SHORT;
     }
-    let r = readings::finish_reading(
-        file,
-        reading,
-        ignore,
-        comps,
-        count,
-        samples,
-        records,
-        planes,
-    );
+    let s = Settings {
+        ignore: ignore,
+        edition2: edition2,
+    };
+    let r = readings::finish_reading(file, reading, s, comps, count, samples, records, planes);
     answers::give_finished(r, answer)
 }
 

@@ -8,6 +8,7 @@ ghost use Rattle.cuzhantir.specs.Private.Taken.{Taken};
 use crate::numbers::READING_LENGTH;
 use crate::numbers::REFUSED;
 use picture_rules::Finished;
+use picture_rules::Settings;
 use read_record::Jp2;
 use read_record::Palette;
 use read_record::Span;
@@ -108,14 +109,14 @@ fn record_of(xs: &[u64]) -> Jp2
 pub fn finish_reading(
     file: &[u8],
     reading: &[u64],
-    ignore: u32,
+    s: Settings,
     comps: &[u32],
     count: u32,
     samples: &[i32],
     records: &mut [u32],
     planes: &mut [i32],
 ) -> Finished
-    ensures { λ r. ⌜ ReadingFinished (handed (now (file .entry)) ignore (now (comps .entry)) count (now (samples .entry)) (now (records .entry)) (now (planes .entry))) (now (reading .entry)) r (now (records .entry)) (now (records .exit)) (now (planes .entry)) (now (planes .exit)) ⌝ }
+    ensures { λ r. ⌜ ReadingFinished (handed (now (file .entry)) s (now (comps .entry)) count (now (samples .entry)) (now (records .entry)) (now (planes .entry))) (now (reading .entry)) r (now (records .entry)) (now (records .exit)) (now (planes .entry)) (now (planes .exit)) ⌝ }
 {
     if no_reading(reading) {
         return Finished::Refused(29, 0);
@@ -127,7 +128,7 @@ pub fn finish_reading(
     picture_finish::opj_jp2_apply_color_postprocessing(
         file,
         m,
-        ignore,
+        s,
         comps,
         count,
         samples,

@@ -34,13 +34,13 @@ module _ (f : List ℕ) (m : Jp2) (i : Image) where
   unfolding expanded componentOf
   expanded-same = fun-ext (λ c. fun-ext (λ k. rw (start-same c) refl))
 
-  picture-same : picture f (kept m) i ≡ picture f m i
+  picture-same : (edition2 : ℕ) → picture edition2 f (kept m) i ≡ picture edition2 f m i
   unfolding picture channels
-  picture-same = rw (expanded-same, packed-same (channels m (i .count))) refl
+  picture-same edition2 = rw (expanded-same, packed-same (channels m (i .count))) refl
 
-  checks-same : (records samples : ℕ) → colourChecks declined f (kept m) i (fitted f (kept m) i records samples) ≡ colourChecks declined f m i (fitted f m i records samples)
+  checks-same : (edition2 records samples : ℕ) → colourChecks declined edition2 f (kept m) i (fitted edition2 f (kept m) i records samples) ≡ colourChecks declined edition2 f m i (fitted edition2 f m i records samples)
   unfolding fitted colourChecks channels
-  checks-same records samples = rw (picture-same, start-same (channels m (i .count))) refl
+  checks-same edition2 records samples = rw (picture-same edition2, start-same (channels m (i .count))) refl
 
 -- what is left of a record with the ignore flag
 abbrev bare : Jp2 → Jp2
@@ -57,10 +57,10 @@ module _ (h : Handed) (m : Jp2) where
 
   -- 25 to 28 and 30 with a record
   abbrev later : Jp2 → Finishing
-  later k = colourChecks declined (h .file) k (h .image) (fitted (h .file) k (h .image) (h .records) (h .samples))
+  later k = colourChecks declined (h .settings .edition2) (h .file) k (h .image) (fitted (h .settings .edition2) (h .file) k (h .image) (h .records) (h .samples))
 
   later-same : (k : Jp2) → later (kept k) ≡ later k
-  later-same k = checks-same (h .file) k (h .image) (h .records) (h .samples)
+  later-same k = checks-same (h .file) k (h .image) (h .settings .edition2) (h .records) (h .samples)
 
   counted-same : later (counted (h .settings) (kept m)) ≡ later (counted (h .settings) m)
   counted-same =

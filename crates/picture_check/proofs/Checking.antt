@@ -12,7 +12,7 @@ use Rattle.box_number.proofs.Indices.{lowest-past, none-lowest}
 use Rattle.read_record.specs.declared.Jp2.{Jp2}
 use Rattle.read_record.specs.Record.{span, palette, withPclr, withCmap, withCdef}
 use Rattle.picture_rules.specs.Image.{Image}
-use Rattle.picture_rules.specs.Handed.{Settings}
+use Rattle.picture_rules.specs.declared.Settings.{Settings}
 use Rattle.picture_rules.specs.Channels.{mapped, channels, corrected}
 use Rattle.picture_rules.specs.Check.{misnamed, undefined, mismapped, dataless}
 use Rattle.picture_rules.specs.Finish.{outsideLists, outsideFile, counted, colourChecks, checks}
@@ -66,10 +66,10 @@ module _ (f : List ℕ) (m : Jp2) (s : Settings) (i : Image) where
     unfolding channels
     bare-channels n = sym (row 1 _ (refl, tt) refl)
 
-    nothing-left : Passed (i .count) false ≡ colourChecks Refused f (bare m) i (Passed (channels (bare m) (i .count)) (holds (mapped (bare m) and corrected f (bare m .lists .cmap) (i .count))))
+    nothing-left : Passed (i .count) false ≡ colourChecks Refused (s .edition2) f (bare m) i (Passed (channels (bare m) (i .count)) (holds (mapped (bare m) and corrected f (bare m .lists .cmap) (i .count))))
     unfolding colourChecks
     nothing-left =
-        row 4 _ (omega arith, (none-lowest (undefined f (span 0 0)) (channels (bare m) (i .count)) (λ c l z. absurd (z refl)), (omega arith, (omega arith, tt)))) (ap (λ (n : ℕ). Passed n false) (sym (bare-channels (i .count))))
+        row 4 _ (omega arith, (none-lowest (undefined (s .edition2) f (span 0 0)) (channels (bare m) (i .count)) (λ c l z. absurd (z refl)), (omega arith, (omega arith, tt)))) (ap (λ (n : ℕ). Passed n false) (sym (bare-channels (i .count))))
 
     pub answer-ignored : (s .ignore ≡ 0 → ⊥) → Passed (i .count) false ≡ checked f m s i
     unfolding checked checks
@@ -80,7 +80,7 @@ module _ (f : List ℕ) (m : Jp2) (s : Settings) (i : Image) where
       abbrev passing : Checked
       passing = Passed (channels m (i .count)) (holds (mapped m and corrected f (m .lists .cmap) (i .count)))
 
-      on : {x : Checked} → x ≡ colourChecks Refused f m i passing → x ≡ checked f m s i
+      on : {x : Checked} → x ≡ colourChecks Refused (s .edition2) f m i passing → x ≡ checked f m s i
       unfolding checked checks
       on q = row 1 _ (inside, tt) (rw (counted-all s m applied) q)
 
@@ -91,9 +91,9 @@ module _ (f : List ℕ) (m : Jp2) (s : Settings) (i : Image) where
       unfolding colourChecks
       answer-25 h = let q = wrong-same in on (row 0 _ (omega arith) (ap (Refused 25) q))
 
-      module _ {l : ℕ} (named : m .lists .cdef .count ≤ w) (g : l ≡ lowest (undefined f (m .lists .cdef)) k) where
-        lacking-same : l ≡ lowest (undefined f (m .lists .cdef)) (channels m (i .count))
-        lacking-same = g ∙ ap (lowest (undefined f (m .lists .cdef))) e
+      module _ {l : ℕ} (named : m .lists .cdef .count ≤ w) (g : l ≡ lowest (undefined (s .edition2) f (m .lists .cdef)) k) where
+        lacking-same : l ≡ lowest (undefined (s .edition2) f (m .lists .cdef)) (channels m (i .count))
+        lacking-same = g ∙ ap (lowest (undefined (s .edition2) f (m .lists .cdef))) e
 
         pub answer-26 : l < k → Refused 26 l ≡ checked f m s i
         unfolding colourChecks

@@ -13,6 +13,7 @@ use Rattle.box_number.proofs.Rows.{row, each}
 use Rattle.read_record.specs.declared.Span.{Span}
 use Rattle.read_channels.specs.Cdef.{Cn}
 use Rattle.box_number.specs.Lowest.{lowest}
+use Rattle.picture_rules.specs.Edition.{leastCounted}
 use Rattle.picture_rules.specs.Check.{undefined}
 use Rattle.picture_check.specs.Private.Parts.{seenAfter, unmarked, Markable, Named}
 use Rattle.box_number.proofs.Answers.{same}
@@ -58,12 +59,12 @@ module _ (f : List ℕ) (l : Span) where
       go (no d) = getD-set-other seen n c 1 0 d ∙ h c k ∙ mark-kept c j (λ z. d (sym (e ∙ z)))
 
   -- the channels without a mark are those that no definition names
-  pub marks-all : (seen : List ℕ) (k : ℕ) → (l .count ≡ 0 → ⊥) → ((c : ℕ) → c < k → getD seen c 0 ≡ seenAfter f l (l .count) c)
-      → lowest (unmarked seen) k ≡ lowest (undefined f l) k
+  pub marks-all : (edition2 : ℕ) (seen : List ℕ) (k : ℕ) → (l .count ≡ 0 → ⊥) → ((c : ℕ) → c < k → getD seen c 0 ≡ seenAfter f l (l .count) c)
+      → lowest (unmarked (leastCounted edition2) seen) k ≡ lowest (undefined edition2 f l) k
   unfolding seenAfter
-  marks-all seen k some-count h =
-      lowest-same (unmarked seen) (undefined f l) k
+  marks-all edition2 seen k some-count h =
+      lowest-same (unmarked (leastCounted edition2) seen) (undefined edition2 f l) k
       (λ c b.
-      same (unmarked seen c) (undefined f l c)
+      same (unmarked (leastCounted edition2) seen c) (undefined edition2 f l c)
       (λ u. (some-count, (u .0, each (λ (x : ℕ). getD seen c 0 ≡ x → lowest (λ j. Cn f l j =? c) (l .count) ≡ l .count) _ ((λ g. λ e. absurd (omega arith)), λ g. λ e. omega (arith, lowest-most (λ j. Cn f l j =? c) (l .count))) (h c b))))
       (λ u. λ n. λ p. λ e. u p (h c b ∙ sym (row 1 _ (omega arith, tt) refl))))

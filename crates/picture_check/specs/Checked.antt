@@ -4,7 +4,7 @@ use mathlib.Core.List.{List}
 use Rattle.box_number.specs.Table.{_and_, holds}
 use Rattle.read_record.specs.declared.Jp2.{Jp2}
 use Rattle.picture_rules.specs.Image.{Image}
-use Rattle.picture_rules.specs.Handed.{Settings}
+use Rattle.picture_rules.specs.declared.Settings.{Settings}
 use Rattle.picture_rules.specs.Channels.{mapped, channels, corrected}
 use Rattle.picture_rules.specs.Finish.{counted, checks}
 use Rattle.picture_check.specs.declared.Checked.{Checked}

@@ -1,9 +1,10 @@
-// The checks of channel definitions: each names a channel and a colour that exist (number 25), and each channel but 0 is defined (number 26).
+// The checks of channel definitions: each names a channel and a colour that exist (number 25), and each channel is defined, in edition 1 but for channel 0 (number 26).
 ghost use Prim.Native.Nat.{ℕ, _+_, _*_, _≤_, _<_};
 ghost use mathlib.Core.Path.{_≡_};
 ghost use lib.ListN.{length, getD};
 ghost use Rattle.box_number.specs.Table.{holds};
 ghost use Rattle.box_number.specs.Lowest.{lowest};
+ghost use Rattle.picture_rules.specs.Edition.{leastCounted};
 ghost use Rattle.picture_rules.specs.Check.{misnamed, undefined};
 ghost use Rattle.picture_check.specs.Private.Parts.{ListInside, unmarked, seenAfter, Markable, Named};
 use read_record::Span;
@@ -75,12 +76,22 @@ fn mark_defined(f: &[u8], l: Span, seen: &mut [u8])
     }
 }
 
-// The first channel from 1 up, of k, that has no mark; k where each has one.
-fn first_unmarked(seen: &[u8], k: u32) -> u32
-    requires { ⌜ k ≤ length (now seen) ⌝ }
-    ensures { λ r. ⌜ r ≡ lowest (unmarked (now (seen .entry))) k ⌝ }
+// The least channel that number 26 counts: in edition 1 channel 0 may go undefined.
+fn least_counted(edition2: u32) -> u32
+    ensures { λ r. ⌜ r ≡ leastCounted edition2 ⌝ }
 {
-    let mut c: u32 = 1;
+    if edition2 == 0 {
+        return 1;
+    }
+    0
+}
+
+// The first channel from the least up, of k, that has no mark; k where each has one.
+fn first_unmarked(seen: &[u8], least: u32, k: u32) -> u32
+    requires { ⌜ k ≤ length (now seen) ⌝ }
+    ensures { λ r. ⌜ r ≡ lowest (unmarked least (now (seen .entry))) k ⌝ }
+{
+    let mut c: u32 = least;
     while c < k {
         if seen[c as usize] == 0 {
             return c;
@@ -90,35 +101,35 @@ fn first_unmarked(seen: &[u8], k: u32) -> u32
     k
 }
 
-// The first channel from 1 up, of k, that has no definition; k where each has one. The two differ in the length of their list of marks: to clear the longer one takes more time than all else in a picture of few channels.
-fn first_undefined_of_few(f: &[u8], l: Span, k: u32) -> u32
+// The first channel that the edition counts, of k, that has no definition; k where each has one. The two differ in the length of their list of marks: to clear the longer one takes more time than all else in a picture of few channels.
+fn first_undefined_of_few(f: &[u8], l: Span, edition2: u32, k: u32) -> u32
     requires { ⌜ Named (now f) l k × (k ≤ 64) × (0 < l .count) ⌝ }
-    ensures { λ r. ⌜ r ≡ lowest (undefined (now (f .entry)) l) k ⌝ }
+    ensures { λ r. ⌜ r ≡ lowest (undefined edition2 (now (f .entry)) l) k ⌝ }
 {
     let mut seen = [0u8; FEW_CHANNELS];
     mark_defined(f, l, &mut seen);
-    first_unmarked(&seen, k)
+    first_unmarked(&seen, least_counted(edition2), k)
 }
 
-fn first_undefined_of_many(f: &[u8], l: Span, k: u32) -> u32
+fn first_undefined_of_many(f: &[u8], l: Span, edition2: u32, k: u32) -> u32
     requires { ⌜ Named (now f) l k × (0 < l .count) ⌝ }
-    ensures { λ r. ⌜ r ≡ lowest (undefined (now (f .entry)) l) k ⌝ }
+    ensures { λ r. ⌜ r ≡ lowest (undefined edition2 (now (f .entry)) l) k ⌝ }
 {
     let mut seen = [0u8; MOST_CHANNELS];
     mark_defined(f, l, &mut seen);
-    first_unmarked(&seen, k)
+    first_unmarked(&seen, least_counted(edition2), k)
 }
 
 // The same; k also where there are no definitions.
-pub fn first_undefined(f: &[u8], l: Span, k: u32) -> u32
+pub fn first_undefined(f: &[u8], l: Span, edition2: u32, k: u32) -> u32
     requires { ⌜ Named (now f) l k ⌝ }
-    ensures { λ r. ⌜ r ≡ lowest (undefined (now (f .entry)) l) k ⌝ }
+    ensures { λ r. ⌜ r ≡ lowest (undefined edition2 (now (f .entry)) l) k ⌝ }
 {
     if l.count == 0 {
         return k;
     }
     if k as usize <= FEW_CHANNELS {
-        return first_undefined_of_few(f, l, k);
+        return first_undefined_of_few(f, l, edition2, k);
     }
-    first_undefined_of_many(f, l, k)
+    first_undefined_of_many(f, l, edition2, k)
 }

@@ -1,9 +1,9 @@
 // All checks of a picture before any plane is written (`opj_jp2_check_color` of jp2.rs): numbers 29 and 25 to 28.
 ghost use mathlib.Core.Path.{_≡_};
 ghost use Rattle.picture_rules.specs.Image.{image};
-ghost use Rattle.picture_rules.specs.Handed.{settings};
 ghost use Rattle.picture_rules.specs.Channels.{channels};
 ghost use Rattle.picture_check.specs.Checked.{checked};
+use picture_rules::Settings;
 use read_record::Jp2;
 
 mod bounds;
@@ -26,21 +26,21 @@ fn channel_count(m: Jp2, n: u32) -> u32
     n
 }
 
-// The checks for the picture of a file f with the record m from reading it, in the order of document 01's table. With any ignore flag but 0 only number 29 is left of them.
+// The checks for the picture of a file f with the record m from reading it, in the order of document 01's table, by the edition in the settings s. With any ignore flag but 0 only number 29 is left of them.
 pub fn opj_jp2_check_color(
     f: &[u8],
     m: Jp2,
-    ignore: u32,
+    s: Settings,
     comps: &[u32],
     count: u32,
     samples: &[i32],
 ) -> Checked
-    ensures { λ r. ⌜ r ≡ checked (now (f .entry)) m (settings ignore) (image (now (comps .entry)) count (now (samples .entry))) ⌝ }
+    ensures { λ r. ⌜ r ≡ checked (now (f .entry)) m s (image (now (comps .entry)) count (now (samples .entry))) ⌝ }
 {
     if bounds::outside(f, m, comps, count, samples) {
         return Checked::Refused(29, 0);
     }
-    if ignore != 0 {
+    if s.ignore != 0 {
         return Checked::Passed(count, false);
     }
     let cdef = m.lists.cdef;
@@ -50,7 +50,7 @@ pub fn opj_jp2_check_color(
     if wrong < cdef.count {
         return Checked::Refused(25, wrong as u32);
     }
-    let lacking = definitions::first_undefined(f, cdef, n);
+    let lacking = definitions::first_undefined(f, cdef, s.edition2, n);
     if lacking < n {
         return Checked::Refused(26, lacking);
     }

@@ -10,7 +10,8 @@ use Rattle.box_number.proofs.Rows.{Says, row, each}
 use Rattle.box_number.proofs.Indices.{lowest-none}
 use Rattle.read_record.specs.declared.Jp2.{Jp2}
 use Rattle.picture_rules.specs.Image.{Image}
-use Rattle.picture_rules.specs.Handed.{Settings, Handed}
+use Rattle.picture_rules.specs.declared.Settings.{Settings}
+use Rattle.picture_rules.specs.Handed.{Handed}
 use Rattle.picture_rules.specs.Channels.{mapped, channels, corrected}
 use Rattle.picture_rules.specs.Check.{misnamed, undefined, mismapped, dataless}
 use Rattle.picture_rules.specs.Finish.{Finishing, declined, outsideLists, outsideFile, counted, fitted, colourChecks, checks, finish}
@@ -36,13 +37,13 @@ module _ (h : Handed) (m : Jp2) where
   k = counted (h .settings) m
 
   abbrev pub next : Finishing
-  next = fitted f k i (h .records) (h .samples)
+  next = fitted (h .settings .edition2) f k i (h .records) (h .samples)
 
   abbrev wrong : ℕ
   wrong = lowest (misnamed f (k .lists .cdef) (channels k (i .count))) (k .lists .cdef .count)
 
   abbrev lacking : ℕ
-  lacking = lowest (undefined f (k .lists .cdef)) (channels k (i .count))
+  lacking = lowest (undefined (h .settings .edition2) f (k .lists .cdef)) (channels k (i .count))
 
   abbrev astray : ℕ
   astray = lowest (mismapped f (k .lists .cmap) (i .count)) (k .lists .cmap .count)
@@ -66,7 +67,7 @@ module _ (h : Handed) (m : Jp2) where
   finish-29 o = sym (row 0 _ o refl)
 
   module _ (inside : Says false (outsideLists i or outsideFile f m)) where
-    later : {x : Finishing} → x ≡ colourChecks declined f k i next → finish h m ≡ x
+    later : {x : Finishing} → x ≡ colourChecks declined (h .settings .edition2) f k i next → finish h m ≡ x
     unfolding finish checks
     later e = sym (row 1 _ (inside, tt) e)
 

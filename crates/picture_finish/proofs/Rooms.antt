@@ -68,9 +68,9 @@ module _ (f : List ℕ) (m : Jp2) (comps : List ℕ) (count : ℕ) (samples : Li
     sizes-most c l =
         rw (component-alone c) (size-most (componentOf f m c) (tested .lists .1 .1 .0) (component-inside f m i (kept f m (tested .file)) (tested .mapping) c l (tested .lists)))
 
-  module _ (records planes : ℕ) where
+  module _ (records planes edition2 : ℕ) where
     module _ {n : ℕ} (d : n ≡ channels m count) where
-      pub refused-records : records < 13 * n → Refused 30 (13 * n) ≡ answered (fitted f m i records planes)
+      pub refused-records : records < 13 * n → Refused 30 (13 * n) ≡ answered (fitted edition2 f m i records planes)
       unfolding fitted answered
       refused-records l = rw d (ap answered (row 0 _ (omega arith) refl))
 
@@ -78,21 +78,21 @@ module _ (f : List ℕ) (m : Jp2) (comps : List ℕ) (count : ℕ) (samples : Li
         is : needed ≡ startOf f m i (channels m count)
         is = s ∙ ap (startOf f m i) d
 
-        pub refused-samples : (needed ≤ 4294967294 → planes < needed) → Refused 30 needed ≡ answered (fitted f m i records planes)
+        pub refused-samples : (needed ≤ 4294967294 → planes < needed) → Refused 30 needed ≡ answered (fitted edition2 f m i records planes)
         unfolding fitted answered
         refused-samples l = let z = is in rw z (ap answered (row 1 _ (omega arith, (λ few. omega (arith, l (omega arith)))) refl))
 
-        pub planes-fit : needed ≤ 4294967294 → needed ≤ planes → Planes n ≡ answered (fitted f m i records planes)
+        pub planes-fit : needed ≤ 4294967294 → needed ≤ planes → Planes n ≡ answered (fitted edition2 f m i records planes)
         unfolding fitted answered picture
         planes-fit l k = let z = is in rw d (ap answered (row 2 _ (omega arith, ((omega arith, omega arith), tt)) refl))
 
     -- planes are answered where there is room
-    pub planes-are : {n : ℕ} → Planes n ≡ answered (fitted f m i records planes) → (fitted f m i records planes ≡ finished (picture f m i)) × Roomy f m i n records planes
+    pub planes-are : {n : ℕ} → Planes n ≡ answered (fitted edition2 f m i records planes) → (fitted edition2 f m i records planes ≡ finished (picture edition2 f m i)) × Roomy f m i n records planes
     unfolding fitted picture
     planes-are {n} =
-        each (λ x. Planes n ≡ answered x → (x ≡ finished (picture f m i)) × Roomy f m i n records planes) _ (
+        each (λ x. Planes n ≡ answered x → (x ≡ finished (picture edition2 f m i)) × Roomy f m i n records planes) _ (
           (λ _. clash _ _),
-          λ long. ((λ _. clash _ _), λ fits e. (refl, roomy long (fits .0) (fits .1) (counts (picture f m i) e))),
+          λ long. ((λ _. clash _ _), λ fits e. (refl, roomy long (fits .0) (fits .1) (counts (picture edition2 f m i) e))),
         )
       where
         roomy : 13 * channels m count ≤ records → startOf f m i (channels m count) ≤ 4294967294 → startOf f m i (channels m count) ≤ planes → n ≡ channels m count → Roomy f m i n records planes

@@ -19,17 +19,17 @@ use Rattle.picture_order.specs.Agree.{RecordByRecord}
 use Rattle.picture_order.proofs.Numbered.{numbered-at}
 
 -- number k of record r of a list that was put in order
-number-in-order : (f : List ℕ) (cdef : Span) (n : ℕ) (l : List ℕ) (r k : ℕ) → r < n → k < 13 → numberAt (reordered f cdef n l) r k ≡ arranged n (definitions f cdef) (numberAt l) .records r k
+number-in-order : (edition2 : ℕ) (f : List ℕ) (cdef : Span) (n : ℕ) (l : List ℕ) (r k : ℕ) → r < n → k < 13 → numberAt (reordered edition2 f cdef n l) r k ≡ arranged edition2 n (definitions f cdef) (numberAt l) .records r k
 unfolding reordered
-number-in-order f cdef n l r k h b =
-    let records = arranged n (definitions f cdef) (numberAt l) .records in
+number-in-order edition2 f cdef n l r k h b =
+    let records = arranged edition2 n (definitions f cdef) (numberAt l) .records in
     List·getD-append (flat records (13 * n)) (drop (13 * n) l) 0 (13 * r + k) (omega (arith, flat-length records (13 * n))) ∙ flat-at records n r k h b
 
-inside-is : (f : List ℕ) (cdef : Span) (n : ℕ) (l : List ℕ) → Says false (reorderOutside f cdef n l) → afterwards f cdef n l ≡ reordered f cdef n l
+inside-is : (edition2 : ℕ) (f : List ℕ) (cdef : Span) (n : ℕ) (l : List ℕ) → Says false (reorderOutside f cdef n l) → afterwards edition2 f cdef n l ≡ reordered edition2 f cdef n l
 unfolding afterwards
-inside-is f cdef n l h = sym (row 1 _ (h, tt) refl)
+inside-is edition2 f cdef n l h = sym (row 1 _ (h, tt) refl)
 
 pub record-by-record : RecordByRecord
-record-by-record f cdef n cs after inside e r k h b =
-    sym (numbered-at after r k b) ∙ ap (λ l. numberAt l r k) (e ∙ inside-is f cdef n (numbered cs) inside) ∙ number-in-order f cdef n (numbered cs) r k h b
-    ∙ arranged-alike n (definitions f cdef) (numberAt (numbered cs)) _ (λ p i _ c. numbered-at cs p i c) r k h b
+record-by-record edition2 f cdef n cs after inside e r k h b =
+    sym (numbered-at after r k b) ∙ ap (λ l. numberAt l r k) (e ∙ inside-is edition2 f cdef n (numbered cs) inside) ∙ number-in-order edition2 f cdef n (numbered cs) r k h b
+    ∙ arranged-alike edition2 n (definitions f cdef) (numberAt (numbered cs)) _ (λ p i _ c. numbered-at cs p i c) r k h b

@@ -25,11 +25,11 @@ use Rattle.picture_order.proofs.Fronts.{reordered-none}
 use Rattle.picture_order.proofs.Numbered.{numbered-length}
 
 -- of no records nothing changes
-pub no-records : (f : List ℕ) (cdef : Span) (n : ℕ) (l : List ℕ) → n ≡ 0 → reordered f cdef n l ≡ l
+pub no-records : (edition2 : ℕ) (f : List ℕ) (cdef : Span) (n : ℕ) (l : List ℕ) → n ≡ 0 → reordered edition2 f cdef n l ≡ l
 unfolding reordered flat
-no-records f cdef n l e = rw e refl
+no-records edition2 f cdef n l e = rw e refl
 
-module _ (f : List ℕ) (cdef : Span) (m n : ℕ) where
+module _ (edition2 : ℕ) (f : List ℕ) (cdef : Span) (m n : ℕ) where
   -- m records are the whole records of l
   module _ (l : List ℕ) (low : 13 * m ≤ length l) (high : length l < 13 * m + 13) where
     out : Says true (astray f cdef m n) → Says true (reorderOutside f cdef n l)
@@ -38,25 +38,25 @@ module _ (f : List ℕ) (cdef : Span) (m n : ℕ) where
     within-list : Says false (astray f cdef m n) → Says false (reorderOutside f cdef n l)
     within-list h = (h .0, (omega (arith, h .1 .0), h .1 .1))
 
-    unchanged : Says false (astray f cdef m n) → ((n ≡ 0 → ⊥) → cdef .count ≡ 0) → reordered f cdef n l ≡ l
+    unchanged : Says false (astray f cdef m n) → ((n ≡ 0 → ⊥) → cdef .count ≡ 0) → reordered edition2 f cdef n l ≡ l
     unchanged h none = go (ℕ-discrete n 0)
       where
-        go : Dec (n ≡ 0) → reordered f cdef n l ≡ l
-        go (yes z) = no-records f cdef n l z
-        go (no z) = sym (reordered-none f cdef n l (none z) (omega (arith, h .1 .0)))
+        go : Dec (n ≡ 0) → reordered edition2 f cdef n l ≡ l
+        go (yes z) = no-records edition2 f cdef n l z
+        go (no z) = sym (reordered-none edition2 f cdef n l (none z) (omega (arith, h .1 .0)))
 
-  pub tasked : {r : Task} → r ≡ task f cdef m n → Tasked f cdef m n r
+  pub tasked : {r : Task} → r ≡ task edition2 f cdef m n → Tasked edition2 f cdef m n r
   unfolding task answered afterwards
   tasked {r} e =
       rw e
-      (each (Tasked f cdef m n) _ (
+      (each (Tasked edition2 f cdef m n) _ (
         (λ h. record {
           few = omega arith;
           within = omega arith;
           needed = λ x. absurd (omega arith);
           in-file = omega arith;
           answers = λ l i j. row 0 _ (out l i j h) refl;
-          leaves = λ l i j. no-records f _ 0 l refl ∙ row 0 _ (out l i j h) refl;
+          leaves = λ l i j. no-records 0 f _ 0 l refl ∙ row 0 _ (out l i j h) refl;
         }),
         λ h. (
           (λ z. record {
@@ -65,7 +65,7 @@ module _ (f : List ℕ) (cdef : Span) (m n : ℕ) where
             needed = λ x. absurd (omega arith);
             in-file = omega arith;
             answers = λ l i j. row 1 _ (within-list l i j h, tt) refl;
-            leaves = λ l i j. no-records f _ 0 l refl ∙ row 1 _ (within-list l i j h, tt) (sym (unchanged l i j h z));
+            leaves = λ l i j. no-records 0 f _ 0 l refl ∙ row 1 _ (within-list l i j h, tt) (sym (unchanged l i j h z));
           }),
           λ z. record {
             few = h .0;
@@ -79,19 +79,19 @@ module _ (f : List ℕ) (cdef : Span) (m n : ℕ) where
       ))
 
 -- over a list of numbers: 29, and what is left to run where nothing is outside
-module _ (f : List ℕ) (cdef : Span) (n : ℕ) (l : List ℕ) where
-  pub refuses : Says true (reorderOutside f cdef n l) → (Refused 29 0 ≡ answered f cdef n l) × (l ≡ afterwards f cdef n l)
+module _ (edition2 : ℕ) (f : List ℕ) (cdef : Span) (n : ℕ) (l : List ℕ) where
+  pub refuses : Says true (reorderOutside f cdef n l) → (Refused 29 0 ≡ answered f cdef n l) × (l ≡ afterwards edition2 f cdef n l)
   unfolding answered afterwards
   refuses h = (row 0 _ h refl, row 0 _ h refl)
 
-  pub passes : Says false (reorderOutside f cdef n l) → (m : List ℕ) → m ≡ reordered f cdef n l → (Done ≡ answered f cdef n l) × (m ≡ afterwards f cdef n l)
+  pub passes : Says false (reorderOutside f cdef n l) → (m : List ℕ) → m ≡ reordered edition2 f cdef n l → (Done ≡ answered f cdef n l) × (m ≡ afterwards edition2 f cdef n l)
   unfolding answered afterwards
   passes h m e = (row 1 _ (h, tt) refl, row 1 _ (h, tt) e)
 
   pub inside : n ≤ 16384 → n ≤ length l / 13 → false ≡ holds (definitionsOutside f cdef) → Says false (reorderOutside f cdef n l)
   inside few room out = (few, (omega arith, said false (definitionsOutside f cdef) out))
 
-  pub runnable : Says false (reorderOutside f cdef n l) → (n ≡ 0 → ⊥) → (cdef .count ≡ 0 → ⊥) → Runnable f (record { place = cdef .place; n = n; count = cdef .count }) (length l)
+  pub runnable : Says false (reorderOutside f cdef n l) → (n ≡ 0 → ⊥) → (cdef .count ≡ 0 → ⊥) → Runnable f (record { place = cdef .place; n = n; count = cdef .count; edition2 = edition2 }) (length l)
   runnable h some defined = (omega (arith, some), h .0, h .1 .0, h .1 .1 defined .1)
 
 -- two lists of all indices are what a run starts from
@@ -102,5 +102,5 @@ begins n positions channels few s h = (
 )
 
 -- a check and the run after it, over records, are what the reorder does with their numbers
-pub together : (f : List ℕ) (cdef : Span) (n : ℕ) (r : Task) (l m : List Comp) → Tasked f cdef (length l) n r → numbered m ≡ reordered f (listOf (r .run)) (r .run .n) (numbered l) → (r .answer ≡ answered f cdef n (numbered l)) × (numbered m ≡ afterwards f cdef n (numbered l))
-together f cdef n r l m t e = (t .answers (numbered l) (omega (arith, numbered-length l)) (omega (arith, numbered-length l)), e ∙ t .leaves (numbered l) (omega (arith, numbered-length l)) (omega (arith, numbered-length l)))
+pub together : (edition2 : ℕ) (f : List ℕ) (cdef : Span) (n : ℕ) (r : Task) (l m : List Comp) → Tasked edition2 f cdef (length l) n r → numbered m ≡ reordered (r .run .edition2) f (listOf (r .run)) (r .run .n) (numbered l) → (r .answer ≡ answered f cdef n (numbered l)) × (numbered m ≡ afterwards edition2 f cdef n (numbered l))
+together edition2 f cdef n r l m t e = (t .answers (numbered l) (omega (arith, numbered-length l)) (omega (arith, numbered-length l)), e ∙ t .leaves (numbered l) (omega (arith, numbered-length l)) (omega (arith, numbered-length l)))

@@ -1,13 +1,18 @@
 -- What each return of the function `decide` asks.
 -- Assumes nothing.
 use Prim.Native.Nat.{ℕ, _+_, _-_, _*_, _≤_, _<_}
-use mathlib.Core.Path.{_≡_, refl}
+use mathlib.Core.Path.{_≡_, refl, sym, ap, subst, _∙_}
 use mathlib.Core.Bool.{true, false}
 use mathlib.Core.List.{List}
 use native.Mathlib.Omega.{arith}
 use lib.ListN.{length, getD, set}
+use Rattle.box_number.proofs.Rows.{row}
 use Rattle.read_channels.specs.Definitions.{Def, def, definition}
+use Rattle.picture_rules.specs.Edition.{markedPosition}
+use Rattle.picture_rules.specs.Order.{swapped, marked}
+use Rattle.picture_rules.proofs.Exchange
 use Rattle.picture_rules.proofs.Steps.{by-row}
+use Rattle.picture_order.specs.Flat.{numberAt}
 use Rattle.picture_order.specs.Private.Steps.{Exchanged, Positioned, Agree, listOf, markIf, Decided}
 use Rattle.picture_order.specs.declared.positions.Ask.{Ask}
 use Rattle.picture_order.specs.declared.task.Run.{Run}
@@ -37,7 +42,7 @@ module _ (f : List ℕ) (run : Run) (k : ℕ) (positions channels : List ℕ) (c
     first = some;
     second = some;
     positioned = w;
-    does = λ l m r x e a g. rw (← is) (by-row 0 n d (a .seat c) a (Agree n m positions) refl (omega (arith, g .past c h)) (agree-same n l positions m 0 a x g));
+    does = λ l m r x e a g. rw (← is) (by-row 0 (run .edition2) n d (a .seat c) a (Agree n m positions) refl (omega (arith, g .past c h)) (agree-same n l positions m 0 a x g));
   }
 
   module _ (hc : c < n) where
@@ -55,7 +60,7 @@ module _ (f : List ℕ) (run : Run) (k : ℕ) (positions channels : List ℕ) (c
       first = below;
       second = below;
       positioned = w;
-      does = λ l m r x e a g. rw (← is) (by-row 1 n d p a (Agree n _ positions) (g .located c hc) (has, h) (agree-mark n m positions a p typ (omega (arith, below, e)) (agree-same n l positions m p a x g)));
+      does = λ l m r x e a g. rw (← is) (by-row 1 (run .edition2) n d p a (Agree n _ positions) (g .located c hc) (has, h) (agree-mark n m positions a p typ (omega (arith, below, e)) (agree-same n l positions m p a x g)));
     }
 
     module _ (low : asoc ≡ 0 → ⊥) (high : asoc ≡ 65535 → ⊥) where
@@ -64,7 +69,7 @@ module _ (f : List ℕ) (run : Run) (k : ℕ) (positions channels : List ℕ) (c
         first = some;
         second = some;
         positioned = w;
-        does = λ l m r x e a g. rw (← is) (by-row 2 n d p a (Agree n m positions) (g .located c hc) (has, ((low, high), h)) (agree-same n l positions m 0 a x g));
+        does = λ l m r x e a g. rw (← is) (by-row 2 (run .edition2) n d p a (Agree n m positions) (g .located c hc) (has, ((low, high), h)) (agree-same n l positions m 0 a x g));
       }
 
       pub no-colour : asoc ≤ n → (typ ≡ 0 → ⊥) → Decided f run k positions (mark p typ) positions channels
@@ -72,22 +77,40 @@ module _ (f : List ℕ) (run : Run) (k : ℕ) (positions channels : List ℕ) (c
         first = below;
         second = below;
         positioned = w;
-        does = λ l m r x e a g. rw (← is) (by-row 4 n d p a (Agree n _ positions) (g .located c hc) (has, ((low, high), (h, (t, tt)))) (agree-mark n m positions a p typ (omega (arith, below, e)) (agree-same n l positions m p a x g)));
+        does = λ l m r x e a g. rw (← is) (by-row 4 (run .edition2) n d p a (Agree n _ positions) (g .located c hc) (has, ((low, high), (h, (t, tt)))) (agree-mark n m positions a p typ (omega (arith, below, e)) (agree-same n l positions m p a x g)));
       }
 
       -- the lists have the places that change
       pub swaps : asoc ≤ n → ((c < 16384) × (p < 16384) × (asoc - 1 < 16384)) × (((c < length positions) × (getD channels (asoc - 1) 0 < length positions)) × ((p < length channels) × (asoc - 1 < length channels)))
       swaps h = omega (arith, below, w .few, w .positions-room, w .channels-room, w .channels-below (asoc - 1) (omega arith))
 
-      pub colour : (positions′ channels′ : List ℕ) → asoc ≤ n → typ ≡ 0 → positions′ ≡ set (set positions c (asoc - 1)) (getD channels (asoc - 1) 0) p → channels′ ≡ set (set channels (asoc - 1) c) p (getD channels (asoc - 1) 0) → Decided f run k positions (exchanged p (asoc - 1)) positions′ channels′
-      colour positions′ channels′ h t s e =
-          let q : asoc - 1 < n = omega arith in
-          record {
-            first = below;
-            second = q;
-            positioned = rw (s, e) (positioned-swap n positions channels w c p (asoc - 1) hc refl q);
-            does = λ l m r x y a g.
-                rw (← is, s)
-                (by-row 3 n d p a (Agree n _ _) (g .located c hc) (has, ((low, high), (h, t)))
-                (agree-mark n m _ _ p 0 (omega (arith, below, y)) (agree-swap n positions channels w c p (asoc - 1) hc refl q l m a x g)));
-          }
+      -- the channel's record comes to q. The record at i, one of the two that change places, takes the mark
+      module _ (positions′ channels′ : List ℕ) (h : asoc ≤ n) (t : typ ≡ 0) (s : positions′ ≡ set (set positions c (asoc - 1)) (getD channels (asoc - 1) 0) p) (e : channels′ ≡ set (set channels (asoc - 1) c) p (getD channels (asoc - 1) 0)) where
+        abbrev q : ℕ
+        q = asoc - 1
+
+        q-below : q < n
+        q-below = omega arith
+
+        marked-at : (i j : ℕ) → i < n → j < n → markedPosition (run .edition2) p q ≡ i → ((l m : List ℕ) → Exchanged i j l m → Exchanged p q l m) → Decided f run k positions (exchanged i j) positions′ channels′
+        marked-at i j hi hj at turn =
+            record {
+              first = hi;
+              second = hj;
+              positioned = rw (s, e) (positioned-swap n positions channels w c p q hc refl q-below);
+              does = λ l m r x y a g.
+                  rw (← is, s)
+                  (by-row 3 (run .edition2) n d p a (Agree n _ _) (g .located c hc) (has, ((low, high), (h, t)))
+                  (subst (λ x. Agree n (set m (13 * i + 12) 0) (set (set positions c q) (getD channels q 0) p) (marked x 0 (swapped p q a))) (sym at)
+                  (agree-mark n m _ _ i 0 (omega (arith, y)) (agree-swap n positions channels w c p q hc refl q-below l m a (turn l m x) g))));
+            }
+
+        -- edition 1: the record that is now at the old position
+        pub colour-first : run .edition2 ≡ 0 → Decided f run k positions (exchanged p q) positions′ channels′
+        unfolding markedPosition
+        colour-first one = marked-at p q below q-below (sym (row 0 _ one refl)) (λ l m x. x)
+
+        -- edition 2: the channel's own
+        pub colour-second : (run .edition2 ≡ 0 → ⊥) → Decided f run k positions (exchanged q p) positions′ channels′
+        unfolding markedPosition
+        colour-second two = marked-at q p q-below below (sym (row 1 _ (two, tt) refl)) (λ l m x r j b. x r j b ∙ ap (λ i. numberAt l i j) (Exchange.flip q p r))

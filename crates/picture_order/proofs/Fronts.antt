@@ -15,11 +15,11 @@ use Rattle.picture_rules.proofs.Alike.{arranged-alike}
 use Rattle.picture_order.specs.Flat.{numberAt, reordered}
 use Rattle.picture_order.proofs.Listing.{whole}
 
-pub reordered-front : (f : List ℕ) (cdef : Span) (n : ℕ) (records : ℕ → ℕ → ℕ) (d : List ℕ) → reordered f cdef n (flat records (13 * n) ++ drop (13 * n) d) ≡ flat (arranged n (definitions f cdef) records .records) (13 * n) ++ drop (13 * n) d
+pub reordered-front : (edition2 : ℕ) (f : List ℕ) (cdef : Span) (n : ℕ) (records : ℕ → ℕ → ℕ) (d : List ℕ) → reordered edition2 f cdef n (flat records (13 * n) ++ drop (13 * n) d) ≡ flat (arranged edition2 n (definitions f cdef) records .records) (13 * n) ++ drop (13 * n) d
 unfolding reordered
-reordered-front f cdef n records d =
+reordered-front edition2 f cdef n records d =
     ap₂ _++_
-    (flat-alike _ _ n (arranged-alike n (definitions f cdef) (numberAt (front ++ drop (13 * n) d)) records says))
+    (flat-alike _ _ n (arranged-alike edition2 n (definitions f cdef) (numberAt (front ++ drop (13 * n) d)) records says))
     (drop-at front (drop (13 * n) d) (13 * n) long)
   where
     front : List ℕ
@@ -33,6 +33,6 @@ reordered-front f cdef n records d =
     says p k h l = List·getD-append front _ 0 (13 * p + k) (omega (arith, long)) ∙ flat-at records n p k h l
 
 -- without definitions the run is its start
-pub reordered-none : (f : List ℕ) (cdef : Span) (n : ℕ) (l : List ℕ) → cdef .count ≡ 0 → 13 * n ≤ length l → l ≡ reordered f cdef n l
+pub reordered-none : (edition2 : ℕ) (f : List ℕ) (cdef : Span) (n : ℕ) (l : List ℕ) → cdef .count ≡ 0 → 13 * n ≤ length l → l ≡ reordered edition2 f cdef n l
 unfolding definitionsTo runDefinitions
-reordered-none f cdef n l none room = whole f cdef n l l refl room (λ r k h. ap (λ i. arranged n (definitionsTo f cdef i) (numberAt l) .records r k) none)
+reordered-none edition2 f cdef n l none room = whole edition2 f cdef n l l refl room (λ r k h. ap (λ i. arranged edition2 n (definitionsTo f cdef i) (numberAt l) .records r k) none)

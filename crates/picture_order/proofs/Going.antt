@@ -26,10 +26,10 @@ pub record Going (f : List ℕ) (run : Run) (cs₀ : List Comp) (positions₀ ch
   pub long-positions : length positions ≡ length positions₀
   pub long-channels : length channels ≡ length channels₀
   pub positioned : Positioned (run .n) positions channels
-  pub agree : Agree (run .n) (numbered cs) positions (arranged (run .n) (definitionsTo f (listOf run) k) (numberAt (numbered cs₀)))
+  pub agree : Agree (run .n) (numbered cs) positions (arranged (run .edition2) (run .n) (definitionsTo f (listOf run) k) (numberAt (numbered cs₀)))
 
 module _ (f : List ℕ) (run : Run) (cs₀ : List Comp) (positions₀ channels₀ : List ℕ) where
-  pub at-start : Started (run .n) positions₀ channels₀ → Agree (run .n) (numbered cs₀) positions₀ (arranged (run .n) (definitionsTo f (listOf run) 0) (numberAt (numbered cs₀)))
+  pub at-start : Started (run .n) positions₀ channels₀ → Agree (run .n) (numbered cs₀) positions₀ (arranged (run .edition2) (run .n) (definitionsTo f (listOf run) 0) (numberAt (numbered cs₀)))
   unfolding definitionsTo runOf
   at-start s = agree-start (run .n) (numbered cs₀) positions₀ (s .1)
 
@@ -48,11 +48,11 @@ module _ (f : List ℕ) (run : Run) (cs₀ : List Comp) (positions₀ channels�
     agree = at-start s;
   }
 
-  pub more : (g : Going f run cs₀ positions₀ channels₀) (cs : List Comp) (positions channels : List ℕ) → Stepped f run (g .k) (numbered (g .cs)) (g .positions) (numbered cs) positions channels → Agree (run .n) (numbered cs) positions (arranged (run .n) (definitionsTo f (listOf run) (g .k + 1)) (numberAt (numbered cs₀)))
-  more g cs positions channels e = agree-more f (listOf run) (run .n) (g .k) (numberAt (numbered cs₀)) (numbered cs) positions (e .does _ (g .agree))
+  pub more : (g : Going f run cs₀ positions₀ channels₀) (cs : List Comp) (positions channels : List ℕ) → Stepped f run (g .k) (numbered (g .cs)) (g .positions) (numbered cs) positions channels → Agree (run .n) (numbered cs) positions (arranged (run .edition2) (run .n) (definitionsTo f (listOf run) (g .k + 1)) (numberAt (numbered cs₀)))
+  more g cs positions channels e = agree-more (run .edition2) f (listOf run) (run .n) (g .k) (numberAt (numbered cs₀)) (numbered cs) positions (e .does _ (g .agree))
 
   -- after the last
-  pub over : (g : Going f run cs₀ positions₀ channels₀) → g .k ≡ run .count → run .n ≤ length cs₀ → numbered (g .cs) ≡ reordered f (listOf run) (run .n) (numbered cs₀)
+  pub over : (g : Going f run cs₀ positions₀ channels₀) → g .k ≡ run .count → run .n ≤ length cs₀ → numbered (g .cs) ≡ reordered (run .edition2) f (listOf run) (run .n) (numbered cs₀)
   over g e h =
-      whole f (listOf run) (run .n) (numbered cs₀) (numbered (g .cs)) (numbered-length (g .cs) ∙ ap (λ x. 13 * x) (g .long) ∙ sym (numbered-length cs₀)) (omega (arith, numbered-length cs₀))
-      (subst (λ (i : ℕ). Agree (run .n) (numbered (g .cs)) (g .positions) (arranged (run .n) (definitionsTo f (listOf run) i) (numberAt (numbered cs₀)))) e (g .agree) .says)
+      whole (run .edition2) f (listOf run) (run .n) (numbered cs₀) (numbered (g .cs)) (numbered-length (g .cs) ∙ ap (λ x. 13 * x) (g .long) ∙ sym (numbered-length cs₀)) (omega (arith, numbered-length cs₀))
+      (subst (λ (i : ℕ). Agree (run .n) (numbered (g .cs)) (g .positions) (arranged (run .edition2) (run .n) (definitionsTo f (listOf run) i) (numberAt (numbered cs₀)))) e (g .agree) .says)

@@ -84,6 +84,6 @@ stepped f run k positions positions′ channels′ r l e h =
     record {
       positioned = e .positioned;
       does = λ a g.
-          subst (λ x. Agree (run .n) x positions′ (define (run .n) (definition f (listOf run) k) a)) (sym (marked-if m (r .i) (r .t) (r .on) (omega (arith, e .first, long))))
+          subst (λ x. Agree (run .n) x positions′ (define (run .edition2) (run .n) (definition f (listOf run) k) a)) (sym (marked-if m (r .i) (r .t) (r .on) (omega (arith, e .first, long))))
           (e .does (numbered l) (numbered m) (omega (arith, numbered-length l)) (swapped-numbered l (r .i) (r .j) (omega (arith, e .first)) (omega (arith, e .second))) (omega (arith, numbered-length l, numbered-length m, long)) a g);
     }

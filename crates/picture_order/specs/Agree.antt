@@ -20,5 +20,5 @@ field cs r k = getD (numbersOf (getD cs r noRecord)) k 0
 -- where nothing is outside its list, each of the first n records afterwards is the one that the definitions bring there
 abbrev pub RecordByRecord : Type 0
 RecordByRecord =
-    (f : List ℕ) (cdef : Span) (n : ℕ) (cs after : List Comp) → Says false (reorderOutside f cdef n (numbered cs)) → numbered after ≡ afterwards f cdef n (numbered cs) →
-    (r k : ℕ) → r < n → k < numbersEach → field after r k ≡ arranged n (definitions f cdef) (field cs) .records r k
+    (edition2 : ℕ) (f : List ℕ) (cdef : Span) (n : ℕ) (cs after : List Comp) → Says false (reorderOutside f cdef n (numbered cs)) → numbered after ≡ afterwards edition2 f cdef n (numbered cs) →
+    (r k : ℕ) → r < n → k < numbersEach → field after r k ≡ arranged edition2 n (definitions f cdef) (field cs) .records r k

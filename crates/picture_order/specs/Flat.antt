@@ -16,9 +16,9 @@ abbrev pub numberAt : List ℕ → ℕ → ℕ → ℕ
 numberAt l r k = getD l (numbersEach * r + k) 0
 
 -- the list l with its first n records in the order of the definitions, and the rest as it was
-unfoldable pub reordered : List ℕ → Span → ℕ → List ℕ → List ℕ
-reordered f cdef n l =
-    let a = arranged n (definitions f cdef) (numberAt l) in
+unfoldable pub reordered : ℕ → List ℕ → Span → ℕ → List ℕ → List ℕ
+reordered edition2 f cdef n l =
+    let a = arranged edition2 n (definitions f cdef) (numberAt l) in
     flat (a .records) (numbersEach * n) ++ drop (numbersEach * n) l
 
 -- number 29: too many records, records outside their list, or definitions outside the file
@@ -29,5 +29,5 @@ reorderOutside f cdef n l =
 unfoldable pub answered : List ℕ → Span → ℕ → List ℕ → Answer
 answered f cdef n l = table (reorderOutside f cdef n l ⇒ Refused 29 0 ∣ otherwise Done)
 
-unfoldable pub afterwards : List ℕ → Span → ℕ → List ℕ → List ℕ
-afterwards f cdef n l = table (reorderOutside f cdef n l ⇒ l ∣ otherwise (reordered f cdef n l))
+unfoldable pub afterwards : ℕ → List ℕ → Span → ℕ → List ℕ → List ℕ
+afterwards edition2 f cdef n l = table (reorderOutside f cdef n l ⇒ l ∣ otherwise (reordered edition2 f cdef n l))

@@ -5,9 +5,9 @@ ghost use lib.ListN.{getD, length, set};
 ghost use Rattle.picture_order.specs.Flat.{answered, afterwards, reordered};
 ghost use Rattle.picture_order.specs.Comps.{markOf, noRecord, numbered, swappedRecords};
 ghost use Rattle.picture_order.specs.Private.Steps.{Positioned, Started, Stepped, listOf};
+use crate::Definitions;
 use crate::task::Run;
 use read_record::Answer;
-use read_record::Span;
 
 // A component of a picture; `data` is the index of its first sample.
 pub struct Comp {
@@ -71,7 +71,7 @@ fn step(cs: &mut [Comp], positions: &mut [u32], channels: &mut [u32], f: &[u8], 
 // Applies the definitions of a run, in their order. `numbered` is the list of the records' numbers: the first n records afterwards are as `reordered` says, and the rest is as it was.
 fn reorder(cs: &mut [Comp], positions: &mut [u32], channels: &mut [u32], f: &[u8], run: Run)
     requires { ⌜ Started (run .n) (now positions) (now channels) × (0 < run .count → 0 < run .n) × (run .n ≤ length (now cs)) × (run .place + 6 * run .count ≤ length (now f)) ⌝ }
-    ensures { λ _. ⌜ numbered (now (cs .exit)) ≡ reordered (now (f .entry)) (listOf run) (run .n) (numbered (now (cs .entry))) ⌝ }
+    ensures { λ _. ⌜ numbered (now (cs .exit)) ≡ reordered (run .edition2) (now (f .entry)) (listOf run) (run .n) (numbered (now (cs .entry))) ⌝ }
 {
     let mut k = 0;
     while k < run.count {
@@ -80,12 +80,12 @@ fn reorder(cs: &mut [Comp], positions: &mut [u32], channels: &mut [u32], f: &[u8
     }
 }
 
-// Puts the first n records of cs into the order of the definition list cdef of the file f. The answer, and the records' numbers afterwards, are those of the list of numbers.
-pub fn opj_jp2_apply_cdef(f: &[u8], cdef: Span, cs: &mut [Comp], n: u32) -> Answer
-    ensures { λ r. ⌜ (r ≡ answered (now (f .entry)) cdef n (numbered (now (cs .entry)))) × (numbered (now (cs .exit)) ≡ afterwards (now (f .entry)) cdef n (numbered (now (cs .entry)))) ⌝ }
+// Puts the first n records of cs into the order of the definitions d of the file f. The answer, and the records' numbers afterwards, are those of the list of numbers.
+pub fn opj_jp2_apply_cdef(f: &[u8], d: Definitions, cs: &mut [Comp], n: u32) -> Answer
+    ensures { λ r. ⌜ (r ≡ answered (now (f .entry)) (d .cdef) n (numbered (now (cs .entry)))) × (numbered (now (cs .exit)) ≡ afterwards (d .edition2) (now (f .entry)) (d .cdef) n (numbered (now (cs .entry)))) ⌝ }
 {
     let m = cs.len();
-    let t = crate::task::check(f, cdef, m, n);
+    let t = crate::task::check(f, d, m, n);
     let mut positions = crate::positions::begun();
     let mut channels = crate::positions::begun();
     reorder(cs, &mut positions, &mut channels, f, t.run);

@@ -14,6 +14,12 @@ pub mod lent;
 mod positions;
 mod task;
 
+// The definitions of a file as a reorder takes them: where they are in it, and by which edition of the camera rules they are run. 0 is edition 1, the crate's behaviour, and any other number edition 2.
+pub struct Definitions {
+    pub cdef: Span,
+    pub edition2: u32,
+}
+
 // The index of the mark in a record.
 const ALPHA: usize = 12;
 
@@ -69,7 +75,7 @@ fn step(recs: &mut [u32], positions: &mut [u32], channels: &mut [u32], f: &[u8],
 // Applies the definitions of a run, in their order. The two lists have a place for each channel, whatever they hold before.
 fn reorder(f: &[u8], run: Run, recs: &mut [u32], positions: &mut [u32], channels: &mut [u32])
     requires { ⌜ Runnable (now f) run (length (now recs)) × (run .n ≤ length (now positions)) × (run .n ≤ length (now channels)) ⌝ }
-    ensures { λ _. ⌜ now (recs .exit) ≡ reordered (now (f .entry)) (listOf run) (run .n) (now (recs .entry)) ⌝ }
+    ensures { λ _. ⌜ now (recs .exit) ≡ reordered (run .edition2) (now (f .entry)) (listOf run) (run .n) (now (recs .entry)) ⌝ }
 {
     positions::begin(positions, run.n);
     positions::begin(channels, run.n);
@@ -83,7 +89,7 @@ fn reorder(f: &[u8], run: Run, recs: &mut [u32], positions: &mut [u32], channels
 // The same with lists of its own, of three lengths: to clear the longest takes more time than all else in a picture of few channels.
 fn reorder_few(f: &[u8], run: Run, recs: &mut [u32])
     requires { ⌜ Runnable (now f) run (length (now recs)) × (run .n ≤ 64) ⌝ }
-    ensures { λ _. ⌜ now (recs .exit) ≡ reordered (now (f .entry)) (listOf run) (run .n) (now (recs .entry)) ⌝ }
+    ensures { λ _. ⌜ now (recs .exit) ≡ reordered (run .edition2) (now (f .entry)) (listOf run) (run .n) (now (recs .entry)) ⌝ }
 {
     let mut positions = [0u32; FEW];
     let mut channels = [0u32; FEW];
@@ -92,7 +98,7 @@ fn reorder_few(f: &[u8], run: Run, recs: &mut [u32])
 
 fn reorder_some(f: &[u8], run: Run, recs: &mut [u32])
     requires { ⌜ Runnable (now f) run (length (now recs)) × (run .n ≤ 1024) ⌝ }
-    ensures { λ _. ⌜ now (recs .exit) ≡ reordered (now (f .entry)) (listOf run) (run .n) (now (recs .entry)) ⌝ }
+    ensures { λ _. ⌜ now (recs .exit) ≡ reordered (run .edition2) (now (f .entry)) (listOf run) (run .n) (now (recs .entry)) ⌝ }
 {
     let mut positions = [0u32; SOME];
     let mut channels = [0u32; SOME];
@@ -101,18 +107,19 @@ fn reorder_some(f: &[u8], run: Run, recs: &mut [u32])
 
 fn reorder_many(f: &[u8], run: Run, recs: &mut [u32])
     requires { ⌜ Runnable (now f) run (length (now recs)) ⌝ }
-    ensures { λ _. ⌜ now (recs .exit) ≡ reordered (now (f .entry)) (listOf run) (run .n) (now (recs .entry)) ⌝ }
+    ensures { λ _. ⌜ now (recs .exit) ≡ reordered (run .edition2) (now (f .entry)) (listOf run) (run .n) (now (recs .entry)) ⌝ }
 {
     let mut positions = [0u32; MOST];
     let mut channels = [0u32; MOST];
     reorder(f, run, recs, &mut positions, &mut channels);
 }
 
-// Puts the first n records of recs into the order of the definition list cdef of the file f.
+// Puts the first n records of recs into the order of the definitions d of the file f.
 // The tests and the choice of the lists are in one function: so the compiler takes the two longer runs for rare ones and keeps them out of it. Else their lists would take stack from every picture (docs/DECISIONS.md, 41).
-pub fn opj_jp2_apply_cdef(f: &[u8], cdef: Span, recs: &mut [u32], n: u32) -> Answer
-    ensures { λ r. ⌜ (r ≡ answered (now (f .entry)) cdef n (now (recs .entry))) × (now (recs .exit) ≡ afterwards (now (f .entry)) cdef n (now (recs .entry))) ⌝ }
+pub fn opj_jp2_apply_cdef(f: &[u8], d: Definitions, recs: &mut [u32], n: u32) -> Answer
+    ensures { λ r. ⌜ (r ≡ answered (now (f .entry)) (d .cdef) n (now (recs .entry))) × (now (recs .exit) ≡ afterwards (d .edition2) (now (f .entry)) (d .cdef) n (now (recs .entry))) ⌝ }
 {
+    let cdef = d.cdef;
     if MOST_COMPONENTS < n {
         return Answer::Refused(29, 0);
     }
@@ -132,6 +139,7 @@ pub fn opj_jp2_apply_cdef(f: &[u8], cdef: Span, recs: &mut [u32], n: u32) -> Ans
         place: cdef.place,
         n: n as usize,
         count: cdef.count,
+        edition2: d.edition2,
     };
     if run.n <= FEW {
         reorder_few(f, run, recs);

@@ -100,9 +100,18 @@ pub fn decide(positions: &mut [u32], channels: &mut [u32], f: &[u8], run: Run, k
     }
     let q = asoc - 1;
     swap_positions(positions, channels, c, p, q);
+    // the record that takes the mark: edition 1 the one that is now at the old position, edition 2 the channel's own
+    if run.edition2 == 0 {
+        return Ask {
+            i: p,
+            j: q,
+            t: 0,
+            on: true,
+        };
+    }
     Ask {
-        i: p,
-        j: q,
+        i: q,
+        j: p,
         t: 0,
         on: true,
     }

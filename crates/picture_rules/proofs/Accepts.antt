@@ -30,8 +30,8 @@ module _ {f g : List ℕ} {m : Jp2} (a : Agree f g m) where
       rw (ap (λ (d : Def). d .channel) e, ap (λ (d : Def). d .asoc) e) (named k b)
 
   -- 26: a channel is defined where it is in the other file
-  defined-same : (c : ℕ) → Says false (undefined f (m .lists .cdef) c) → Says false (undefined g (m .lists .cdef) c)
-  defined-same c defined some from none =
+  defined-same : (edition2 c : ℕ) → Says false (undefined edition2 f (m .lists .cdef) c) → Says false (undefined edition2 g (m .lists .cdef) c)
+  defined-same edition2 c defined some from none =
       let l = m .lists .cdef in
       let here : l .count ≤ lowest (λ j. Cn f l j =? c) (l .count) = none-lowest _ (l .count) (λ j b z. absent j b z) in
       defined some from (omega (arith, lowest-most (λ j. Cn f l j =? c) (l .count)))
@@ -47,7 +47,7 @@ module _ (h : Handed) (g : List ℕ) (m : Jp2) (a : Agree (h .file) g m) where
       let start = start-same a k (h .image) (channels m (h .image .count)) (le-refl _) in
       record {
         named = named-same a (channels m (h .image .count)) (c .named);
-        defined = λ x l. defined-same a x (c .defined x l);
+        defined = λ x l. defined-same a (h .settings .edition2) x (c .defined x l);
         mapping = λ x l. rw (a .mappings .component x l, a .mappings .type x l, a .mappings .column x l) (c .mapping x l);
         lent = λ x l. rw (a .mappings .component x l) (c .lent x l);
         record-room = c .record-room;

@@ -7,6 +7,7 @@ use native.Mathlib.Omega.{arith}
 use Rattle.box_number.specs.Table.{_=?_, _and_, otherwise, _⇒_∣_, table}
 use Rattle.box_number.proofs.Rows.{each}
 use Rattle.read_channels.specs.Definitions.{Def}
+use Rattle.picture_rules.specs.Edition.{markedPosition}
 use Rattle.picture_rules.specs.Order.{Arranged, exchange, swapped, marked, define, runDefinitions, arranged}
 use Rattle.picture_rules.proofs.Exchange
 use Rattle.picture_rules.proofs.Steps.{rows, by-row}
@@ -16,7 +17,7 @@ record Alike (n : ℕ) (a b : Arranged) : Type 0 where
   seats : (c : ℕ) → a .seat c ≡ b .seat c
   stands : (p k : ℕ) → p < n → k < 13 → a .records p k ≡ b .records p k
 
-module _ (n : ℕ) where
+module _ (edition2 n : ℕ) where
   marked-alike : (p t : ℕ) {a b : Arranged} → Alike n a b → Alike n (marked p t a) (marked p t b)
   marked-alike p t e = record { seats = e .seats; stands = λ r k h l. ap (λ x. table (r =? p and k =? 12 ⇒ t ∣ otherwise x)) (e .stands r k h l) }
 
@@ -25,30 +26,30 @@ module _ (n : ℕ) where
       record { seats = λ c. ap (exchange p q) (e .seats c); stands = λ r k h l. e .stands (exchange p q r) k (Exchange.below n p q hp hq r h) l }
 
   -- both meet the same row, since the channel is at the same position
-  define-alike : (d : Def) (a b : Arranged) → Alike n a b → Alike n (define n d a) (define n d b)
+  define-alike : (d : Def) (a b : Arranged) → Alike n a b → Alike n (define edition2 n d a) (define edition2 n d b)
   unfolding define
   define-alike d a b e =
       let p = a .seat (d .channel) in
       let there = sym (e .seats (d .channel)) in
-      each (λ x. Alike n x (define n d b)) (rows n d p a) (
-        (λ h. by-row 0 n d p b (Alike n _) there h e),
+      each (λ x. Alike n x (define edition2 n d b)) (rows edition2 n d p a) (
+        (λ h. by-row 0 edition2 n d p b (Alike n _) there h e),
         λ i. (
-          (λ h. by-row 1 n d p b (Alike n _) there (i, h) (marked-alike p (d .typ) e)),
+          (λ h. by-row 1 edition2 n d p b (Alike n _) there (i, h) (marked-alike p (d .typ) e)),
           λ j. (
-            (λ h. by-row 2 n d p b (Alike n _) there (i, (j, h)) e),
+            (λ h. by-row 2 edition2 n d p b (Alike n _) there (i, (j, h)) e),
             λ k. (
-              (λ h. by-row 3 n d p b (Alike n _) there (i, (j, (k, h))) (marked-alike p 0 (swapped-alike p (d .asoc - 1) (omega arith) (omega arith) e))),
-              λ h. by-row 4 n d p b (Alike n _) there (i, (j, (k, (h, tt)))) (marked-alike p (d .typ) e),
+              (λ h. by-row 3 edition2 n d p b (Alike n _) there (i, (j, (k, h))) (marked-alike (markedPosition edition2 p (d .asoc - 1)) 0 (swapped-alike p (d .asoc - 1) (omega arith) (omega arith) e))),
+              λ h. by-row 4 edition2 n d p b (Alike n _) there (i, (j, (k, (h, tt)))) (marked-alike p (d .typ) e),
             ),
           ),
         ),
       )
 
-  run-alike : (ds : List Def) (a b : Arranged) → Alike n a b → Alike n (runDefinitions n ds a) (runDefinitions n ds b)
+  run-alike : (ds : List Def) (a b : Arranged) → Alike n a b → Alike n (runDefinitions edition2 n ds a) (runDefinitions edition2 n ds b)
   unfolding runDefinitions
   run-alike [] a b e = e
-  run-alike (d ∷ ds) a b e = run-alike ds (define n d a) (define n d b) (define-alike d a b e)
+  run-alike (d ∷ ds) a b e = run-alike ds (define edition2 n d a) (define edition2 n d b) (define-alike d a b e)
 
 -- records that are the same below n are put in the same order
-pub arranged-alike : (n : ℕ) (ds : List Def) (r s : ℕ → ℕ → ℕ) → ((p k : ℕ) → p < n → k < 13 → r p k ≡ s p k) → (p k : ℕ) → p < n → k < 13 → arranged n ds r .records p k ≡ arranged n ds s .records p k
-arranged-alike n ds r s e = run-alike n ds _ _ (record { seats = λ c. refl; stands = e }) .stands
+pub arranged-alike : (edition2 n : ℕ) (ds : List Def) (r s : ℕ → ℕ → ℕ) → ((p k : ℕ) → p < n → k < 13 → r p k ≡ s p k) → (p k : ℕ) → p < n → k < 13 → arranged edition2 n ds r .records p k ≡ arranged edition2 n ds s .records p k
+arranged-alike edition2 n ds r s e = run-alike edition2 n ds _ _ (record { seats = λ c. refl; stands = e }) .stands

@@ -16,7 +16,7 @@ use Rattle.box_number.proofs.Indices.{lowest-none, none-lowest}
 -- 25 to 28 and 30 pass
 pub record Checked (h : Handed) (m : Jp2) : Type 0 where
   pub named : (j : ℕ) → j < m .lists .cdef .count → Says false (misnamed (h .file) (m .lists .cdef) (channels m (h .image .count)) j)
-  pub defined : (c : ℕ) → c < channels m (h .image .count) → Says false (undefined (h .file) (m .lists .cdef) c)
+  pub defined : (c : ℕ) → c < channels m (h .image .count) → Says false (undefined (h .settings .edition2) (h .file) (m .lists .cdef) c)
   pub mapping : (c : ℕ) → c < m .lists .cmap .count → Says false (mismapped (h .file) (m .lists .cmap) (h .image .count) c)
   pub lent : (c : ℕ) → c < m .lists .cmap .count → Says false (dataless (h .file) (m .lists .cmap) (h .image) c)
   pub record-room : 13 * channels m (h .image .count) ≤ h .records
@@ -43,10 +43,10 @@ module _ (h : Handed) (m : Jp2) where
   finishing = finish h m
 
   abbrev colouring : Finishing
-  colouring = colourChecks declined (h .file) m (h .image) (fitted (h .file) m (h .image) (h .records) (h .samples))
+  colouring = colourChecks declined (h .settings .edition2) (h .file) m (h .image) (fitted (h .settings .edition2) (h .file) m (h .image) (h .records) (h .samples))
 
   abbrev pub made : Image
-  made = picture (h .file) m (h .image)
+  made = picture (h .settings .edition2) (h .file) m (h .image)
 
   coloured-checked : Where (λ planes. Checked h m × (planes ≡ made)) colouring
   unfolding fitted colourChecks

@@ -1,6 +1,6 @@
 -- The rows of the tables of finishing, said of the pictures that pass them.
 -- Assumes nothing.
-use Prim.Native.Nat.{ℕ, _≤_, _<_}
+use Prim.Native.Nat.{ℕ, _+_, _≤_, _<_}
 use mathlib.Core.Path.{_≡_, refl, sym, subst}
 use mathlib.Core.Bool.{false}
 use mathlib.Core.List.{List}
@@ -13,6 +13,7 @@ use Rattle.read_record.specs.declared.Jp2.{Jp2}
 use Rattle.read_channels.specs.Cdef.{Cn}
 use Rattle.picture_rules.specs.Image.{Image}
 use Rattle.picture_rules.specs.Handed.{Handed}
+use Rattle.picture_rules.specs.Edition.{leastCounted}
 use Rattle.picture_rules.specs.Check.{misnamed, undefined, mismapped}
 use Rattle.picture_rules.specs.Finish.{Finishing, finished, declined, outsideLists, outsideFile, counted, fitted, colourChecks, checks, finish}
 use Rattle.picture_rules.specs.Passing.{Inside, channelCount, Named, HasDefinition, MappedRight, HasSamples, Passing, FinishedExactly, LowestWithout, RoomFor, RefusedExactly}
@@ -35,6 +36,15 @@ module _ (f : List ℕ) (m : Jp2) (i : Image) where
         definitions = g .1 .1;
       }
 
+-- the least channel that an edition counts, in numbers: 1 in edition 1, and 0 in any other
+counted-from : (edition2 c : ℕ) → leastCounted edition2 < c + 1 → edition2 ≡ 0 → 1 ≤ c
+unfolding leastCounted
+counted-from edition2 c = each (λ least. least < c + 1 → edition2 ≡ 0 → 1 ≤ c) _ ((λ _ l _. omega arith), λ second l first. absurd (second first))
+
+from-counted : (edition2 c : ℕ) → (edition2 ≡ 0 → 1 ≤ c) → leastCounted edition2 < c + 1
+unfolding leastCounted
+from-counted edition2 c from = each (λ least. least < c + 1) _ ((λ first. omega (arith, from first)), λ _. omega arith)
+
 module _ (h : Handed) (m : Jp2) where
   -- a channel that some definition names is not without one
   named-lowest : (c : ℕ) → (j : ℕ) × (j < m .lists .cdef .count) × (Cn (h .file) (m .lists .cdef) j ≡ c) → lowest (λ j. Cn (h .file) (m .lists .cdef) j =? c) (m .lists .cdef .count) ≡ m .lists .cdef .count → ⊥
@@ -53,11 +63,11 @@ module _ (h : Handed) (m : Jp2) where
   says-named : (j : ℕ) → Says false (misnamed (h .file) (m .lists .cdef) (channelCount h m) j) → Named h m j
   says-named j (a, b) = (omega arith, λ z u. let s = b z u in omega arith)
 
-  defined-says : (c : ℕ) → HasDefinition h m c → Says false (undefined (h .file) (m .lists .cdef) c)
-  defined-says c p z from = named-lowest c (p z from)
+  defined-says : (c : ℕ) → HasDefinition h m c → Says false (undefined (h .settings .edition2) (h .file) (m .lists .cdef) c)
+  defined-says c p z from = named-lowest c (p z (counted-from (h .settings .edition2) c from))
 
-  says-defined : (c : ℕ) → Says false (undefined (h .file) (m .lists .cdef) c) → HasDefinition h m c
-  says-defined c p z from = lowest-named c (p z from)
+  says-defined : (c : ℕ) → Says false (undefined (h .settings .edition2) (h .file) (m .lists .cdef) c) → HasDefinition h m c
+  says-defined c p z from = lowest-named c (p z (from-counted (h .settings .edition2) c from))
 
   mapped-says : (c : ℕ) → MappedRight h m c → Says false (mismapped (h .file) (m .lists .cmap) (h .image .count) c)
   mapped-says c (a, b) = (omega arith, b)
@@ -125,7 +135,7 @@ module _ (h : Handed) (m : Jp2) where
   told-29 : Told h m 29 0
   told-29 = record { by-25 = λ e. absurd (omega arith); by-26 = λ e. absurd (omega arith); by-27 = λ e. absurd (omega arith); by-28 = λ e. absurd (omega arith); by-30 = λ e. absurd (omega arith) }
 
-  coloured-tells : Tells h m (colourChecks declined (h .file) m (h .image) (fitted (h .file) m (h .image) (h .records) (h .samples)))
+  coloured-tells : Tells h m (colourChecks declined (h .settings .edition2) (h .file) m (h .image) (fitted (h .settings .edition2) (h .file) m (h .image) (h .records) (h .samples)))
   unfolding colourChecks fitted
   coloured-tells =
       each (Tells h m) _ (
@@ -152,7 +162,7 @@ Another (finished planes) = Unit
 Another (declined number place) = number ≡ 29 → ⊥
 
 module _ (h : Handed) (m : Jp2) where
-  coloured-another : Another (colourChecks declined (h .file) m (h .image) (fitted (h .file) m (h .image) (h .records) (h .samples)))
+  coloured-another : Another (colourChecks declined (h .settings .edition2) (h .file) m (h .image) (fitted (h .settings .edition2) (h .file) m (h .image) (h .records) (h .samples)))
   unfolding colourChecks fitted
   coloured-another =
       each Another _ (

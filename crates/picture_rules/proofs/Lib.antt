@@ -2,6 +2,7 @@ pub mod Exchange
 pub mod Steps
 pub mod Counting
 pub mod Runs
+pub mod Marks
 pub mod Rules
 pub mod Flats
 pub mod Alike
@@ -20,6 +21,7 @@ pub mod Orders
 pub mod Distinct
 pub mod Mets
 pub mod Demand3
+pub mod Editions
 pub mod Telling
 pub mod Refusals
 pub mod Exactly

@@ -1,6 +1,6 @@
--- The premises of demand 3 are met by four pictures, computed.
+-- The premises of demand 3 are met by five pictures, computed.
 -- Assumes nothing.
-use Prim.Native.Nat.{ℕ}
+use Prim.Native.Nat.{ℕ, _*_}
 use mathlib.Core.Path.{_≡_, refl, ap}
 use mathlib.Core.List.{List, [], _∷_}
 use native.Mathlib.Omega.{arith}
@@ -27,6 +27,7 @@ use Rattle.read_rules.specs.File.{outer, run, walk, read}
 use Rattle.read_rules.specs.Range.{range}
 use Rattle.read_rules.specs.Alike.{given, Alike}
 use Rattle.read_channels.specs.Definitions.{Def, def, definitionsTo, definitions}
+use Rattle.picture_rules.specs.Edition.{markedPosition, leastCounted}
 use Rattle.picture_rules.specs.Order.{exchange, define}
 use Rattle.picture_rules.specs.Flat.{flat}
 use Rattle.picture_rules.specs.Order as order
@@ -36,7 +37,7 @@ use Rattle.picture_rules.specs.Channels.{channels, componentOf, typeOf}
 use Rattle.picture_rules.specs.Samples.{displayed, lookup, valueFor, valueOf, channelSamples, packed, startOf}
 use Rattle.picture_rules.specs.Finish.{counted, expanded, picture, fitted, colourChecks, checks, finish}
 use Rattle.picture_rules.specs.Words.{Handed, Accepted}
-use Rattle.picture_rules.specs.Met.{otherwise-turned, directFile, directExample, directPlanes, palettedFile, paletted, palettedPlanes, single, singlePlanes, shared, sharedPlanes, Met, RuleMet, DirectMet, PaletteMet, SingleMet, SharedMet}
+use Rattle.picture_rules.specs.Met.{otherwise-turned, directFile, directExample, directPlanes, palettedFile, paletted, palettedPlanes, opacityFile, listedLast, opacityExample, opacityPlanes, single, singlePlanes, shared, sharedPlanes, Met, RuleMet, DirectMet, PaletteMet, OpacityMet, SingleMet, SharedMet}
 use Rattle.picture_rules.proofs.Distinct.{DifferPairwise, once-pairwise, swapped, alike-parts}
 
 -- definitions at a place that differ pairwise
@@ -52,29 +53,23 @@ module _ (h : Handed) (planes : Image) (m : Jp2) (p : ℕ) (d : Def) (ds : List 
         clear = rw (place, here) (once-pairwise (d ∷ ds) differ);
       }
 
--- three definitions at a place, and the first two exchanged
-module _ (h : Handed) (planes : Image) (g : List ℕ) (m : Jp2) (p : ℕ) where
-  abbrev a : Def
-  a = def 0 0 3
-
-  abbrev b : Def
-  b = def 1 0 2
-
-  abbrev c : Def
-  c = def 2 0 1
+-- definitions at a place, and the first two exchanged
+module _ (h : Handed) (planes : Image) (g : List ℕ) (m : Jp2) (p : ℕ) (a b : Def) (ds : List Def) where
+  abbrev many : ℕ
+  many = length (a ∷ b ∷ ds)
 
   met :
-      Accepted h m planes → h .settings .ignore ≡ 0 → m .lists .cdef ≡ span p 3 → definitions (h .file) (span p 3) ≡ a ∷ b ∷ c ∷ [] → definitions g (span p 3) ≡ b ∷ a ∷ c ∷ [] →
-      Alike (h .file) g (range p 18) → (g ≡ h .file → ⊥) → Met h planes g
+      Accepted h m planes → h .settings .ignore ≡ 0 → m .lists .cdef ≡ span p many → definitions (h .file) (span p many) ≡ a ∷ b ∷ ds → definitions g (span p many) ≡ b ∷ a ∷ ds →
+      DifferPairwise (a ∷ b ∷ ds) → Alike (h .file) g (range p (6 * many)) → (g ≡ h .file → ⊥) → Met h planes g
   unfolding rule-met
-  met y applied place here there alike other =
-      let r = rule-met h planes m p a (b ∷ c ∷ []) y applied place here (omega arith) in
+  met y applied place here there differ alike other =
+      let r = rule-met h planes m p a (b ∷ ds) y applied place here differ in
       record {
         kept = m;
         accepted = y;
         defined = r .defined;
         clear = r .clear;
-        alike = record { reads = y .reading; alike = rw place alike; reordered = rw (place, here, there) (swapped a b (c ∷ [])) };
+        alike = record { reads = y .reading; alike = rw place alike; reordered = rw (place, here, there) (swapped a b ds) };
         other-order = other;
       }
 
@@ -85,20 +80,29 @@ keptOf (refused number place) = blank
 
 -- what reading and finishing compute with
 computing : ℕ
-unfolding table number part kindOf headerLength boxLength withBit signature fileType ihdr bpcc lab colr entryBytes rowBytes pclr cmap cdef split readAll lacksIhdr jp2h outer run walk definitionsTo exchange define order.runDefinitions size lowest channels componentOf typeOf displayed lookup valueFor valueOf channelSamples packed startOf Cji counted expanded flat picture fitted colourChecks checks finish
+unfolding table number part kindOf headerLength boxLength withBit signature fileType ihdr bpcc lab colr entryBytes rowBytes pclr cmap cdef split readAll lacksIhdr jp2h outer run walk definitionsTo markedPosition leastCounted exchange define order.runDefinitions size lowest channels componentOf typeOf displayed lookup valueFor valueOf channelSamples packed startOf Cji counted expanded flat picture fitted colourChecks checks finish
 computing = 0
 
 pub direct-met : DirectMet
 unfolding computing
 direct-met =
-    met directExample directPlanes (directFile otherwise-turned) (keptOf (given (read (directExample .file)))) 72 (record { reading = refl; finishing = refl }) refl refl refl refl
+    met directExample directPlanes (directFile otherwise-turned) (keptOf (given (read (directExample .file)))) 72 (def 0 0 3) (def 1 0 2) (def 2 0 1 ∷ [])
+    (record { reading = refl; finishing = refl }) refl refl refl refl (omega arith)
     (alike-parts (directExample .file) (directFile otherwise-turned) 72 18 refl refl refl) (λ e. omega (arith, ap (λ x. getD x 73 0) e))
 
 pub palette-met : PaletteMet
 unfolding computing
 palette-met =
-    met paletted palettedPlanes (palettedFile otherwise-turned) (keptOf (given (read (paletted .file)))) 112 (record { reading = refl; finishing = refl }) refl refl refl refl
+    met paletted palettedPlanes (palettedFile otherwise-turned) (keptOf (given (read (paletted .file)))) 112 (def 0 0 3) (def 1 0 2) (def 2 0 1 ∷ [])
+    (record { reading = refl; finishing = refl }) refl refl refl refl (omega arith)
     (alike-parts (paletted .file) (palettedFile otherwise-turned) 112 18 refl refl refl) (λ e. omega (arith, ap (λ x. getD x 113 0) e))
+
+pub opacity-met : OpacityMet
+unfolding computing
+opacity-met =
+    met opacityExample opacityPlanes (opacityFile listedLast) (keptOf (given (read (opacityExample .file)))) 72 (def 0 1 0) (def 1 0 1) []
+    (record { reading = refl; finishing = refl }) refl refl refl refl (omega arith)
+    (alike-parts (opacityExample .file) (opacityFile listedLast) 72 12 refl refl refl) (λ e. omega (arith, ap (λ x. getD x 73 0) e))
 
 pub single-met : SingleMet
 unfolding computing

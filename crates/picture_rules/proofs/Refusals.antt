@@ -15,13 +15,13 @@ abbrev Numbered : Finishing → Type 0
 Numbered (finished planes) = Unit
 Numbered (declined number place) = (25 ≤ number) × (number ≤ 30)
 
-fitted-numbered : (f : List ℕ) (m : Jp2) (i : Image) (records samples : ℕ) → Numbered (fitted f m i records samples)
+fitted-numbered : (edition2 : ℕ) (f : List ℕ) (m : Jp2) (i : Image) (records samples : ℕ) → Numbered (fitted edition2 f m i records samples)
 unfolding fitted
-fitted-numbered f m i records samples = each Numbered _ ((λ _. (omega arith, omega arith)), λ _. ((λ _. (omega arith, omega arith)), λ _. tt))
+fitted-numbered edition2 f m i records samples = each Numbered _ ((λ _. (omega arith, omega arith)), λ _. ((λ _. (omega arith, omega arith)), λ _. tt))
 
-checks-numbered : (f : List ℕ) (m : Jp2) (i : Image) (next : Finishing) → Numbered next → Numbered (colourChecks declined f m i next)
+checks-numbered : (edition2 : ℕ) (f : List ℕ) (m : Jp2) (i : Image) (next : Finishing) → Numbered next → Numbered (colourChecks declined edition2 f m i next)
 unfolding colourChecks
-checks-numbered f m i next h =
+checks-numbered edition2 f m i next h =
     each Numbered _ (
       (λ _. (omega arith, omega arith)),
       λ _. ((λ _. (omega arith, omega arith)), λ _. ((λ _. (omega arith, omega arith)), λ _. ((λ _. (omega arith, omega arith)), λ _. h))),
@@ -33,7 +33,7 @@ finish-numbered h m =
     let k = counted (h .settings) m in
     each Numbered _ (
       (λ _. (omega arith, omega arith)),
-      λ _. checks-numbered (h .file) k (h .image) _ (fitted-numbered (h .file) k (h .image) (h .records) (h .samples)),
+      λ _. checks-numbered (h .settings .edition2) (h .file) k (h .image) _ (fitted-numbered (h .settings .edition2) (h .file) k (h .image) (h .records) (h .samples)),
     )
 
 pub finishing-numbers : FinishingNumbers

@@ -9,21 +9,22 @@ use Rattle.box_number.specs.Table.{Test, _=?_, _≠?_, _<?_, _or_, _and_, Rows,
 use Rattle.box_number.proofs.Rows.{Says, either, said, shown, Reaches, entry, row, each}
 use Rattle.read_channels.specs.Definitions.{Def}
 use Rattle.picture_rules.specs.Definitions.{Colour}
+use Rattle.picture_rules.specs.Edition.{markedPosition}
 use Rattle.picture_rules.specs.Order.{Arranged, exchange, swapped, marked, define}
 use Rattle.picture_rules.proofs.Exchange
 
 -- `define`, by the first of its rows whose test holds
-abbrev pub rows : ℕ → Def → ℕ → Arranged → Rows Arranged
-rows n d p a =
+abbrev pub rows : ℕ → ℕ → Def → ℕ → Arranged → Rows Arranged
+rows edition2 n d p a =
     n <? p + 1 ⇒ a
     ∣ d .asoc =? 0 or d .asoc =? 65535 ⇒ marked p (d .typ) a
     ∣ n <? d .asoc ⇒ a
-    ∣ d .typ =? 0 ⇒ marked p 0 (swapped p (d .asoc - 1) a)
+    ∣ d .typ =? 0 ⇒ marked (markedPosition edition2 p (d .asoc - 1)) 0 (swapped p (d .asoc - 1) a)
     ∣ otherwise (marked p (d .typ) a)
 
-pub by-row : (i n : ℕ) (d : Def) (p : ℕ) (a : Arranged) (P : Arranged → Type 0) → a .seat (d .channel) ≡ p → Reaches i (rows n d p a) → P (entry i (rows n d p a)) → P (define n d a)
+pub by-row : (i edition2 n : ℕ) (d : Def) (p : ℕ) (a : Arranged) (P : Arranged → Type 0) → a .seat (d .channel) ≡ p → Reaches i (rows edition2 n d p a) → P (entry i (rows edition2 n d p a)) → P (define edition2 n d a)
 unfolding define
-by-row i n d p a P e r h = subst (λ x. P (table (rows n d x a))) (sym e) (subst P (row i (rows n d p a) r refl) h)
+by-row i edition2 n d p a P e r h = subst (λ x. P (table (rows edition2 n d x a))) (sym e) (subst P (row i (rows edition2 n d p a) r refl) h)
 
 -- d and e define two channels, and give no colour number to both
 abbrev pub Apart : Def → Def → Type 0
@@ -96,18 +97,18 @@ aside n d a b p typ f =
       stands = λ r k l. sym (row 1 (r =? p and k =? 12 ⇒ typ ∣ otherwise (b .records r k)) ((λ e. omega arith), tt) refl) ∙ f .stands r k l;
     }
 
-pub follows : (n : ℕ) (d : Def) (a : Arranged) → Follows n d a (define n d a)
+pub follows : (edition2 n : ℕ) (d : Def) (a : Arranged) → Follows n d a (define edition2 n d a)
 unfolding define
-follows n d a =
+follows edition2 n d a =
     let p = a .seat (d .channel) in
-    each (Follows n d a) (rows n d p a) (
+    each (Follows n d a) (rows edition2 n d p a) (
       (λ h. kept n d a (λ i _ _ _. omega arith)),
       λ i. (
         (λ h. aside n d a a p (d .typ) (kept n d a (λ _ _ j k. absurd (k (h (omega arith)))))),
         λ j. (
           (λ h. kept n d a (λ _ _ _ _. omega arith)),
           λ h. (
-            (λ t. aside n d a _ p 0 (turned n d a (omega arith, (t, (omega arith, (j .1, omega arith)))))),
+            (λ t. aside n d a _ (markedPosition edition2 p (d .asoc - 1)) 0 (turned n d a (omega arith, (t, (omega arith, (j .1, omega arith)))))),
             (λ t. aside n d a a p (d .typ) (kept n d a (λ _ u. absurd (t u)))),
           ),
         ),

@@ -8,7 +8,10 @@ use native.Mathlib.Omega.{arith}
 use lib.IntN.{ℤ, pos}
 use lib.ListN.{length, drop, List·getD-append}
 use Rattle.read_record.specs.declared.Jp2.{Jp2}
-use Rattle.picture_rules.specs.Image.{Image, image, listed, component, width, height, first, noData, sampleAt}
+use Rattle.box_number.specs.Table.{table}
+use Rattle.box_number.proofs.Rows.{row, each}
+use Rattle.picture_rules.specs.Edition.{orderFreeNumbers}
+use Rattle.picture_rules.specs.Image.{Image, image, listed, component, width, height, first, mark, noData, sampleAt}
 use Rattle.picture_rules.specs.Finish.{Finishing, finished}
 use Rattle.picture_rules.specs.Words.{Handed, Accepted, Empty, channelSample}
 use Rattle.picture_rules.specs.PictureRule.{FilledPlanes}
@@ -51,35 +54,52 @@ tells-count free h g m k planes others o y z =
     let w = subst (λ k. Accepted (withFile g h) k others) (only (x .reading) (z .reading)) z in
     ap (λ (p : Image). p .count) (same-picture (x .finishing) (w .finishing)) ∙ e
 
--- every record of the same planes is the same, its mark aside
-pub tells-record : (planes others : Image) → SamePlanes planes others → (p k : ℕ) → p < planes .count → k < 12 → component others p k ≡ component planes p k
+-- every record of the same planes is the same, in edition 1 its mark aside
+pub tells-record : (planes others : Image) → SamePlanes 0 planes others → (p k : ℕ) → p < planes .count → k < 12 → component others p k ≡ component planes p k
+unfolding orderFreeNumbers table
 tells-record planes others same p k l b = same .records p k l b
+
+-- in edition 2 its mark too
+pub tells-mark : (edition2 : ℕ) (planes others : Image) → (edition2 ≡ 0 → ⊥) → SamePlanes edition2 planes others → (p : ℕ) → p < planes .count → mark others p ≡ mark planes p
+unfolding orderFreeNumbers
+tells-mark edition2 planes others second same p l = same .records p 12 l (subst (λ many. 12 < many) (row 1 _ (second, tt) refl) (omega arith))
 
 -- every channel is in order where nothing defines the channels
 pub tells-order :
     (h : Handed) (m : Jp2) (planes : Image) (every : EveryPlane h m planes) → m .lists .cdef .count ≡ 0 → (c : ℕ) → c < planes .count → every .filled .pairing .to c ≡ c
 tells-order h m planes every none c l = every .in-order none c l
 
--- every number but the mark of every record is the same in both destinations
+-- every number but the mark of every record is the same in both destinations, whatever the edition
 pub tells-number :
-    (n : ℕ) (records others : List ℕ) (planes planes′ pixels pixels′ : List ℤ) → SameDestinations n records others planes planes′ pixels pixels′ →
+    (edition2 n : ℕ) (records others : List ℕ) (planes planes′ pixels pixels′ : List ℤ) → SameDestinations edition2 n records others planes planes′ pixels pixels′ →
     (p k : ℕ) → p < n → k < 12 → component (listed others) p k ≡ component (listed records) p k
-tells-number n records others planes planes′ pixels pixels′ same p k l b = same .numbers p k l b
+unfolding orderFreeNumbers
+tells-number edition2 n records others planes planes′ pixels pixels′ same p k l b =
+    same .numbers p k l (each (λ many. k < many) _ ((λ _. b), λ _. omega arith))
+
+-- in edition 2 the mark too
+pub tells-marks :
+    (edition2 n : ℕ) (records others : List ℕ) (planes planes′ pixels pixels′ : List ℤ) → (edition2 ≡ 0 → ⊥) → SameDestinations edition2 n records others planes planes′ pixels pixels′ →
+    (p : ℕ) → p < n → mark (listed others) p ≡ mark (listed records) p
+unfolding orderFreeNumbers
+tells-marks edition2 n records others planes planes′ pixels pixels′ second same p l =
+    same .numbers p 12 l (subst (λ many. 12 < many) (row 1 _ (second, tt) refl) (omega arith))
 
 -- so is every sample of every plane
 pub tells-both :
-    (n : ℕ) (records others : List ℕ) (planes planes′ pixels pixels′ : List ℤ) → SameDestinations n records others planes planes′ pixels pixels′ →
+    (edition2 n : ℕ) (records others : List ℕ) (planes planes′ pixels pixels′ : List ℤ) → SameDestinations edition2 n records others planes planes′ pixels pixels′ →
     (p y x : ℕ) → p < n → (first (listed records) p ≡ noData → ⊥) → y < height (listed records) p → x < width (listed records) p →
     sampleAt (image others n pixels′) p y x ≡ sampleAt (image records n planes′) p y x
-tells-both n records others planes planes′ pixels pixels′ same p y x l some b c =
+tells-both edition2 n records others planes planes′ pixels pixels′ same p y x l some b c =
+    let equal = tells-number edition2 n records others planes planes′ pixels pixels′ same p in
     let s = same .samples in
     let start = first (listed records) p in
     let wide = width (listed records) p in
     let inside : start + y * wide + x < length s = omega (arith, same .all-in p l some, mul-le-mul-right wide b) in
-    rw (same .numbers p 11 l (omega arith), same .numbers p 2 l (omega arith), same .here, same .there)
+    rw (equal 11 l (omega arith), equal 2 l (omega arith), same .here, same .there)
     (List·getD-append s (drop (length s) pixels) (pos 0) (start + y * wide + x) inside ∙ sym (List·getD-append s (drop (length s) planes) (pos 0) (start + y * wide + x) inside))
 
 -- and where both lists of samples had the same content before, they have it afterwards
 pub tells-samples :
-    (n : ℕ) (records others : List ℕ) (planes planes′ pixels′ : List ℤ) → SameDestinations n records others planes planes′ planes pixels′ → pixels′ ≡ planes′
-tells-samples n records others planes planes′ pixels′ same = same .there ∙ sym (same .here)
+    (edition2 n : ℕ) (records others : List ℕ) (planes planes′ pixels′ : List ℤ) → SameDestinations edition2 n records others planes planes′ planes pixels′ → pixels′ ≡ planes′
+tells-samples edition2 n records others planes planes′ pixels′ same = same .there ∙ sym (same .here)

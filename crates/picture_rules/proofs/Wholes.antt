@@ -29,8 +29,8 @@ use Rattle.picture_rules.proofs.Demand3.{order-freedom}
 use Rattle.picture_rules.specs.declared.Finished.{Finished}
 use Rattle.picture_rules.specs.declared.Finished.the-variants.{Planes, Refused}
 use Rattle.picture_rules.specs.Answers.{answered, fronted, recordsAfter, samplesAfter, Done}
-use Rattle.picture_rules.specs.Met.{otherwise-turned, directFile, directExample, directPlanes, palettedFile, paletted, palettedPlanes, Met}
-use Rattle.picture_rules.proofs.Mets.{direct-met, palette-met}
+use Rattle.picture_rules.specs.Met.{otherwise-turned, directFile, directExample, directPlanes, palettedFile, paletted, palettedPlanes, opacityFile, listedLast, opacityExample, opacityPlanes, Met}
+use Rattle.picture_rules.proofs.Mets.{direct-met, palette-met, opacity-met}
 use Rattle.picture_rules.specs.Whole.{pictured, PictureRight, PictureFilled, PictureOrderFree, ReadPicture, Speaks}
 
 -- a refusal leaves both destinations
@@ -118,7 +118,7 @@ module _ (h : Handed) where
         let b : others′ ≡ fronted (q .components) others = y .numbers ∙ ap (λ w. recordsAfter w others) there in
         let c : planes′ ≡ fronted (p .samples) planes = x .samples ∙ ap (λ w. samplesAfter w planes) here in
         let d : pixels′ ≡ fronted (q .samples) pixels = y .samples ∙ ap (λ w. samplesAfter w pixels) there in
-        subst (λ n. SameDestinations n records′ others′ planes planes′ pixels pixels′) count (rw (a, b, c, d) same),
+        subst (λ n. SameDestinations (h .settings .edition2) n records′ others′ planes planes′ pixels pixels′) count (rw (a, b, c, d) same),
   )
 
   -- the whole promise
@@ -151,6 +151,10 @@ speaks h planes other met rule =
 
 pub speaks-direct : Speaks directExample directPlanes (directFile otherwise-turned)
 speaks-direct = speaks directExample directPlanes _ direct-met
+
+-- in edition 2 too
+pub speaks-opacity : Speaks opacityExample opacityPlanes (opacityFile listedLast)
+speaks-opacity = speaks opacityExample opacityPlanes _ opacity-met
 
 pub speaks-paletted : Speaks paletted palettedPlanes (palettedFile otherwise-turned)
 speaks-paletted = speaks paletted palettedPlanes _ palette-met

@@ -71,21 +71,21 @@ unfoldable pub expanded : List ℕ → Jp2 → Image → ℕ → ℕ → ℕ
 expanded f m i c k = expandedFrom (B f (m .lists .pclr) c) (m .lists .cmap .count) i (componentOf f m c) (startOf f m i c) k
 
 -- the finished picture: the channels' records in the order that the definitions give, and the channels' samples
-unfoldable pub picture : List ℕ → Jp2 → Image → Image
-picture f m i =
+unfoldable pub picture : ℕ → List ℕ → Jp2 → Image → Image
+picture edition2 f m i =
     let n = channels m (i .count) in
     record {
-      components = flat (arranged n (definitions f (m .lists .cdef)) (expanded f m i) .records) (numbersEach * n);
+      components = flat (arranged edition2 n (definitions f (m .lists .cdef)) (expanded f m i) .records) (numbersEach * n);
       count = n;
       samples = packed f m i n;
     }
 
 -- 25 to 28, each with the lowest index at fault; where nothing is at fault, what comes next
-unfoldable pub colourChecks : {A : Type 0} → (ℕ → ℕ → A) → List ℕ → Jp2 → Image → A → A
-colourChecks refuse f m i next =
+unfoldable pub colourChecks : {A : Type 0} → (ℕ → ℕ → A) → ℕ → List ℕ → Jp2 → Image → A → A
+colourChecks refuse edition2 f m i next =
     let n = channels m (i .count) in
     let wrong = lowest (misnamed f (m .lists .cdef) n) (m .lists .cdef .count) in
-    let lacking = lowest (undefined f (m .lists .cdef)) n in
+    let lacking = lowest (undefined edition2 f (m .lists .cdef)) n in
     let astray = lowest (mismapped f (m .lists .cmap) (i .count)) (m .lists .cmap .count) in
     let blank = lowest (dataless f (m .lists .cmap) i) (m .lists .cmap .count) in
     table
@@ -100,20 +100,20 @@ unfoldable pub checks : {A : Type 0} → (ℕ → ℕ → A) → List ℕ → Jp
 checks refuse f m s i next =
     table
     (outsideLists i or outsideFile f m ⇒ refuse 29 0
-    ∣ otherwise (colourChecks refuse f (counted s m) i next))
+    ∣ otherwise (colourChecks refuse (s .edition2) f (counted s m) i next))
 
 -- 30, where the destinations have this much room for numbers of records, and for samples
-unfoldable pub fitted : List ℕ → Jp2 → Image → ℕ → ℕ → Finishing
-fitted f m i records samples =
+unfoldable pub fitted : ℕ → List ℕ → Jp2 → Image → ℕ → ℕ → Finishing
+fitted edition2 f m i records samples =
     let n = channels m (i .count) in
     let needed = startOf f m i n in
     table
     (records <? numbersEach * n ⇒ declined 30 (numbersEach * n)
     ∣ mostSamples <? needed or samples <? needed ⇒ declined 30 needed
-    ∣ otherwise (finished (picture f m i)))
+    ∣ otherwise (finished (picture edition2 f m i)))
 
 -- all checks, then 30; m is the record from reading the file
 unfoldable pub finish : Handed → Jp2 → Finishing
 finish h m =
     checks declined (h .file) m (h .settings) (h .image)
-    (fitted (h .file) (counted (h .settings) m) (h .image) (h .records) (h .samples))
+    (fitted (h .settings .edition2) (h .file) (counted (h .settings) m) (h .image) (h .records) (h .samples))

@@ -14,10 +14,11 @@ use Rattle.read_record.specs.Record.{span, palette, withPclr, withCmap, withCde
 use Rattle.read_palette.specs.Pclr.{entryBytes, rowBytes, Cji}
 use Rattle.read_channels.specs.Definitions.{Def, def, definitionsTo}
 use Rattle.read_rules.specs.Files.{two, four}
+use Rattle.picture_rules.specs.Edition.{markedPosition, leastCounted}
 use Rattle.picture_rules.specs.Order.{exchange, define, runDefinitions}
 use Rattle.picture_rules.specs.Flat.{flat}
 use Rattle.picture_rules.specs.Image.{Image, image, noData, sampleAt, size}
-use Rattle.picture_rules.specs.Handed.{Handed, settings}
+use Rattle.picture_rules.specs.Handed.{Settings, Handed, settings}
 use Rattle.picture_rules.specs.Channels.{channels, componentOf, typeOf}
 use Rattle.picture_rules.specs.Samples.{displayed, lookup, valueFor, valueOf, channelSamples, packed, startOf}
 use Rattle.picture_rules.specs.Finish.{Finishing, finished, declined, counted, expanded, picture, fitted, colourChecks, checks, finish}
@@ -92,21 +93,28 @@ mapped entries columns rows mappings ds =
 abbrev pub cut : ℕ → Lists → Lists
 cut n l = record { file = take n (l .file); kept = l .kept }
 
--- the ignore flag, and the room for numbers of records and for samples
+-- the settings, and the room for numbers of records and for samples
 pub record Room : Type 0 where
-  pub ignore : ℕ
+  pub told : Settings
   pub records : ℕ
   pub samples : ℕ
 
+-- edition 1
 abbrev pub room : ℕ → ℕ → Room
-room records samples = record { ignore = 0; records = records; samples = samples }
+room records samples = record { told = settings 0 0; records = records; samples = samples }
 
 abbrev pub enough : Room
 enough = room 52 16
 
--- as much room, with the ignore flag
+-- as much room, with the ignore flag; with the flag of the edition; with both
 abbrev pub ignoring : ℕ → Room
-ignoring ignore = record { ignore = ignore; records = 52; samples = 16 }
+ignoring ignore = record { told = settings ignore 0; records = 52; samples = 16 }
+
+abbrev pub edition : ℕ → Room
+edition edition2 = record { told = settings 0 edition2; records = 52; samples = 16 }
+
+abbrev pub flags : ℕ → ℕ → Room
+flags ignore edition2 = record { told = settings ignore edition2; records = 52; samples = 16 }
 
 -- everything that finishing takes
 pub record Given : Type 0 where
@@ -115,7 +123,7 @@ pub record Given : Type 0 where
 
 infix 25 _with_into_
 abbrev pub _with_into_ : Image → Lists → Room → Given
-_with_into_ i l r = record { handed = record { file = l .file; image = i; settings = settings (r .ignore); records = r .records; samples = r .samples }; kept = l .kept }
+_with_into_ i l r = record { handed = record { file = l .file; image = i; settings = r .told; records = r .records; samples = r .samples }; kept = l .kept }
 
 -- a table of what finishing takes and of its expected answers
 infixr 20 _gives_∣_
@@ -175,6 +183,10 @@ threeColumns mappings ds = mapped 2 (7 ∷ 7 ∷ 7 ∷ []) (10 ∷ 11 ∷ 12 ∷
 abbrev pub threeMarked : ℕ → ℕ → ℕ → Finishing
 threeMarked a b c =
     finished (A wide 1 high 1 bits 8 sign 0 at 0 mark a ∷ B wide 1 high 1 bits 8 sign 0 at 1 mark b ∷ C wide 1 high 1 bits 8 sign 0 at 2 mark c ∷ [] over pos 1 ∷ pos 2 ∷ pos 3 ∷ [])
+
+-- the pair's points with B first, each with its mark
+abbrev pub swappedPair : ℕ → ℕ → Finishing
+swappedPair b a = finished (B wide 1 high 1 bits 8 sign 0 at 1 mark b ∷ A wide 1 high 1 bits 8 sign 0 at 0 mark a ∷ [] over pos 0 ∷ pos 1 ∷ [])
 
 -- records of one name, one sample each, from index 0 on
 abbrev pub pointsFrom : ℕ → ℕ → List ℤ → List (List ℕ)
@@ -263,6 +275,30 @@ cases =
     three with defined (def 2 8 0 ∷ def 1 7 0 ∷ []) into enough gives threeMarked 9 7 8 ∣
     one (pos 1) with threeColumns ownColumns (def 1 0 2 ∷ []) into enough gives declined 26 2 ∣
     pair with mapped 2 (7 ∷ []) (10 ∷ 20 ∷ []) (mapping 1 1 0) (def 0 9 0 ∷ []) into enough gives points B (pos 20 ∷ []) ∣
+    -- edition 2: an opacity that comes before a colour keeps its mark, in either order of the definitions, for any flag but 0; in edition 1 the order decides
+    pair with defined (def 0 1 0 ∷ def 1 0 1 ∷ []) into edition 1 gives swappedPair 0 1 ∣
+    pair with defined (def 1 0 1 ∷ def 0 1 0 ∷ []) into edition 1 gives swappedPair 0 1 ∣
+    pair with defined (def 0 1 0 ∷ def 1 0 1 ∷ []) into edition 2 gives swappedPair 0 1 ∣
+    pair with defined (def 0 1 0 ∷ def 1 0 1 ∷ []) into edition 4294967295 gives swappedPair 0 1 ∣
+    pair with defined (def 0 1 0 ∷ def 1 0 1 ∷ []) into edition 0 gives swappedPair 9 0 ∣
+    pair with defined (def 1 0 1 ∷ def 0 1 0 ∷ []) into edition 0 gives swappedPair 9 1 ∣
+    -- a channel defined twice has its last typ, before a move and after it; colours that clash leave each channel its own
+    three with defined (def 0 1 0 ∷ def 1 2 0 ∷ def 2 3 0 ∷ def 0 4 0 ∷ []) into edition 1 gives threeMarked 4 2 3 ∣
+    pair with defined (def 0 1 0 ∷ def 1 0 1 ∷ def 0 2 0 ∷ []) into edition 1 gives swappedPair 0 2 ∣
+    pair with defined (def 1 5 0 ∷ def 0 1 0 ∷ def 1 0 1 ∷ []) into edition 1 gives swappedPair 0 1 ∣
+    pair with defined (def 0 0 1 ∷ def 1 0 1 ∷ []) into edition 1 gives swappedPair 0 0 ∣
+    -- 26 counts channel 0 too, also of a palette's channels, where there are definitions and they are applied; 25 goes before it, 27 after
+    pair with defined (def 1 0 2 ∷ []) into edition 1 gives declined 26 0 ∣
+    pair with defined (def 1 0 2 ∷ []) into enough gives finished (point A 0 ∷ B wide 1 high 1 bits 8 sign 0 at 1 mark 0 ∷ [] over pos 0 ∷ pos 1 ∷ []) ∣
+    four-points with defined (def 1 0 2 ∷ []) into edition 1 gives declined 26 0 ∣
+    four-points with defined (def 0 0 1 ∷ def 2 0 2 ∷ []) into edition 1 gives declined 26 1 ∣
+    three with defined (def 1 1 0 ∷ def 0 2 0 ∷ def 2 3 0 ∷ []) into edition 1 gives threeMarked 2 1 3 ∣
+    one (pos 1) with twoColumns (mapping 0 1 0 ++ mapping 0 1 1) (def 1 3 2 ∷ []) into edition 1 gives declined 26 0 ∣
+    one (pos 1) with twoColumns (mapping 9 1 0 ++ mapping 0 1 1) (def 1 3 2 ∷ []) into edition 1 gives declined 26 0 ∣
+    one (pos 1) with twoColumns (mapping 9 1 0 ++ mapping 0 1 1) (def 1 3 3 ∷ []) into edition 1 gives declined 25 0 ∣
+    pair with plain into edition 1 gives finished pair ∣
+    pair with defined (def 1 0 2 ∷ []) into flags 1 1 gives finished pair ∣
+    pair with defined (def 0 1 0 ∷ def 1 0 1 ∷ []) into flags 1 1 gives finished pair ∣
     -- 27, the lowest mapping: another column than its own; no such component; a direct one with a column; another type
     one (pos 1) with threeColumns (mapping 0 1 0 ++ mapping 0 1 2 ++ mapping 0 1 0) [] into enough gives declined 27 1 ∣
     one (pos 1) with threeColumns (mapping 0 1 0 ++ mapping 1 1 1 ++ mapping 2 1 2) [] into enough gives declined 27 1 ∣
@@ -286,8 +322,8 @@ cases =
     one (pos 1) with threeColumns ownColumns [] into room 39 2 gives declined 30 3 ∣
     blankFirst with plain into room 26 0 gives declined 30 1 ∣
     -- with the ignore flag it is the components that need room
-    one (pos 1) with threeColumns ownColumns [] into record { ignore = 1; records = 12; samples = 0 } gives declined 30 13 ∣
-    one (pos 1) with threeColumns ownColumns [] into record { ignore = 1; records = 13; samples = 1 } gives points A (pos 1 ∷ []) ∣
+    one (pos 1) with threeColumns ownColumns [] into record { told = settings 1 0; records = 12; samples = 0 } gives declined 30 13 ∣
+    one (pos 1) with threeColumns ownColumns [] into record { told = settings 1 0; records = 13; samples = 1 } gives points A (pos 1 ∷ []) ∣
     -- 29: a list of components that is one number short; one that is longer than the count asks for
     image (take 25 (joined (point A 0 ∷ point B 1 ∷ []))) 2 (pos 0 ∷ pos 1 ∷ []) with plain into enough gives declined 29 0 ∣
     image (joined (point A 0 ∷ point B 1 ∷ [])) 1 (pos 0 ∷ pos 1 ∷ []) with plain into enough gives points A (pos 0 ∷ []) ∣
@@ -346,7 +382,7 @@ rowsOf i p w zero = []
 rowsOf i p w (suc n) = rowsOf i p w n ++ (rowOf i p n w ∷ [])
 
 pub finishing-cases : results cases ≡ expected cases
-unfolding table number bytes entryBytes rowBytes Cji definitionsTo exchange define runDefinitions size lowest channels componentOf typeOf displayed lookup valueFor valueOf channelSamples packed startOf counted expanded flat picture fitted colourChecks checks finish
+unfolding table number bytes entryBytes rowBytes Cji definitionsTo markedPosition leastCounted exchange define runDefinitions size lowest channels componentOf typeOf displayed lookup valueFor valueOf channelSamples packed startOf counted expanded flat picture fitted colourChecks checks finish
 finishing-cases = refl
 
 -- A is two rows of three, where it was lent and where it was put

@@ -34,6 +34,10 @@ height i c = component i c comp.h
 abbrev pub first : Image → ℕ → ℕ
 first i c = component i c comp.«data»
 
+-- the mark
+abbrev pub mark : Image → ℕ → ℕ
+mark i c = component i c comp.alpha
+
 -- the most samples of a picture
 abbrev pub mostSamples : ℕ
 mostSamples = 4294967294

@@ -1,4 +1,5 @@
 pub mod Definitions
+pub mod Edition
 pub mod Order
 pub mod Flat
 pub mod Rules
@@ -12,9 +13,12 @@ pub mod Finish
 pub mod Refusals
 pub mod Passing
 pub mod Words
+pub mod OwnMark
 pub mod PictureRule
 pub mod EveryPicture
+pub mod OwnMarks
 pub mod OrderFreedom
+pub mod Editions
 pub mod Boxes
 pub mod FinishingCases
 pub mod Met

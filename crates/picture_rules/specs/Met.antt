@@ -37,9 +37,12 @@ planeRecord wide start = 1 ∷ 1 ∷ wide ∷ 1 ∷ 0 ∷ 0 ∷ 8 ∷ 8 ∷ 0 �
 abbrev pub pointRecord : ℕ → ℕ → List ℕ
 pointRecord start mark = 1 ∷ 1 ∷ 1 ∷ 1 ∷ 0 ∷ 0 ∷ 8 ∷ 8 ∷ 0 ∷ 0 ∷ 0 ∷ start ∷ mark ∷ []
 
--- with the file and the image, and room for the numbers of so many planes and for so many samples
+-- in an edition, with the file and the image, and room for the numbers of so many planes and for so many samples
+abbrev pub exampleIn : ℕ → List ℕ → Image → ℕ → ℕ → Handed
+exampleIn edition2 file picture planes room = record { file = file; image = picture; settings = settings 0 edition2; records = 13 * planes; samples = room }
+
 abbrev pub exampleOf : List ℕ → Image → ℕ → ℕ → Handed
-exampleOf file picture planes room = record { file = file; image = picture; settings = settings 0; records = 13 * planes; samples = room }
+exampleOf file picture planes room = exampleIn 0 file picture planes room
 
 -- three components of one sample each
 abbrev pub directFile : List ℕ → List ℕ
@@ -90,6 +93,24 @@ sharedPlanes =
     image (pointRecord 6 7 ++ pointRecord 1 1 ++ pointRecord 2 1 ++ pointRecord 3 0 ++ pointRecord 4 0 ++ pointRecord 5 0 ++ pointRecord 0 0) 7
     (pos 10 ∷ pos 20 ∷ pos 30 ∷ pos 40 ∷ pos 50 ∷ pos 60 ∷ pos 70 ∷ [])
 
+-- edition 2: two components, of which the first is opacity and the second the only colour, each with mark 7
+abbrev pub opacityFile : List ℕ → List ℕ
+opacityFile definitions = fileOf (ihdrBox 2 ++ cdefBox 2 definitions)
+
+-- the opacity is listed first, or last
+abbrev pub listedFirst : List ℕ
+listedFirst = definitionBytes 0 1 0 ++ definitionBytes 1 0 1
+
+abbrev pub listedLast : List ℕ
+listedLast = definitionBytes 1 0 1 ++ definitionBytes 0 1 0
+
+abbrev pub opacityExample : Handed
+opacityExample = exampleIn 1 (opacityFile listedFirst) (image (pointRecord 0 7 ++ pointRecord 1 7) 2 (pos 10 ∷ pos 20 ∷ [])) 2 2
+
+-- the colour is the first plane, and each plane has its own channel's mark
+abbrev pub opacityPlanes : Image
+opacityPlanes = image (pointRecord 1 0 ++ pointRecord 0 1) 2 (pos 10 ∷ pos 20 ∷ [])
+
 -- a picture is accepted with some record, with definitions that are present, applied and clash nowhere
 pub record RuleMet (h : Handed) (planes : Image) : Type 0 where
   pub kept : Jp2
@@ -112,6 +133,10 @@ DirectMet = Met directExample directPlanes (directFile otherwise-turned)
 
 abbrev pub PaletteMet : Type 0
 PaletteMet = Met paletted palettedPlanes (palettedFile otherwise-turned)
+
+-- in edition 2 too
+abbrev pub OpacityMet : Type 0
+OpacityMet = Met opacityExample opacityPlanes (opacityFile listedLast)
 
 -- the picture rule speaks of one definition, and of definitions that share numbers and clash nowhere
 abbrev pub SingleMet : Type 0

@@ -42,11 +42,11 @@ Named h m j =
     let l = m .lists .cdef in
     (Cn (h .file) l j < channelCount h m) × ((Asoc (h .file) l j ≡ 0 → ⊥) → (Asoc (h .file) l j ≡ 65535 → ⊥) → Asoc (h .file) l j - 1 < channelCount h m)
 
--- 26 passes channel c: it is channel 0, or some definition names it, where there are definitions
+-- 26 passes channel c: some definition names it, where there are definitions; in edition 1 channel 0 needs none
 abbrev pub HasDefinition : Handed → Jp2 → ℕ → Type 0
 HasDefinition h m c =
     let l = m .lists .cdef in
-    (l .count ≡ 0 → ⊥) → 1 ≤ c → (j : ℕ) × (j < l .count) × (Cn (h .file) l j ≡ c)
+    (l .count ≡ 0 → ⊥) → (h .settings .edition2 ≡ 0 → 1 ≤ c) → (j : ℕ) × (j < l .count) × (Cn (h .file) l j ≡ c)
 
 -- 27 passes mapping c: its component exists, and where type and column are not 0 and 0 they are 1 and c
 abbrev pub MappedRight : Handed → Jp2 → ℕ → Type 0

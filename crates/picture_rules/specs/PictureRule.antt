@@ -7,9 +7,11 @@ use Rattle.picture_rules.specs.Definitions.{Colour}
 use Rattle.picture_rules.specs.Rules.{Pairing}
 use Rattle.picture_rules.specs.Image.{Image, width, height, first}
 use Rattle.picture_rules.specs.Channels.{channels}
+use Rattle.picture_rules.specs.Handed.{EditionTwo}
 use Rattle.picture_rules.specs.Words.{Handed, Accepted, Defined, Clear, Empty, Fills}
+use Rattle.picture_rules.specs.OwnMark.{OwnMark}
 
--- one pairing of the channels with the planes serves the whole picture: each channel fills its plane. Each plane has samples of its own: those of a channel come before those of the next
+-- one pairing of the channels with the planes serves the whole picture: each channel fills its plane. Each plane has samples of its own: those of a channel come before those of the next. In edition 2 each plane has its own channel's mark
 pub record FilledPlanes (h : Handed) (m : Jp2) (planes : Image) : Type 0 where
   pub all-planes : planes .count ≡ channels m (h .image .count)
   pub pairing : Pairing (planes .count)
@@ -18,6 +20,7 @@ pub record FilledPlanes (h : Handed) (m : Jp2) (planes : Image) : Type 0 where
       (c d : ℕ) → c < d → d < planes .count → (Empty h m c → ⊥) → (Empty h m d → ⊥) →
       let p = pairing .to c in
       first planes p + height planes p * width planes p ≤ first planes (pairing .to d)
+  pub marks : EditionTwo (h .settings) → (c : ℕ) → c < planes .count → OwnMark h m planes c (pairing .to c)
 
 -- and in this pairing the channel defined as colour k fills plane k - 1
 pub record RightPlanes (h : Handed) (m : Jp2) (planes : Image) : Type 0 where

@@ -10,7 +10,7 @@ use Rattle.read_rules.specs.File.{read}
 use Rattle.read_rules.specs.Alike.{given}
 use Rattle.picture_rules.specs.Image.{Image, image}
 use Rattle.picture_rules.specs.Finish.{Finishing, declined, counted, finish}
-use Rattle.picture_rules.specs.Handed.{Handed, settings}
+use Rattle.picture_rules.specs.Handed.{Settings, Handed}
 use Rattle.picture_rules.specs.Words.{Defined, Clear}
 use Rattle.picture_rules.specs.PictureRule.{RightPlanes}
 use Rattle.picture_rules.specs.EveryPicture.{EveryPlane}
@@ -20,8 +20,8 @@ use Rattle.picture_rules.specs.declared.Finished.the-variants.{Planes}
 use Rattle.picture_rules.specs.Answers.{answered, recordsAfter, samplesAfter, Done}
 
 -- all inputs of finishing; of the destinations their lengths
-abbrev pub handed : List ℕ → ℕ → List ℕ → ℕ → List ℤ → List ℕ → List ℤ → Handed
-handed file ignore comps count samples records planes = record { file = file; image = image comps count samples; settings = settings ignore; records = length records; samples = length planes }
+abbrev pub handed : List ℕ → Settings → List ℕ → ℕ → List ℤ → List ℕ → List ℤ → Handed
+handed file s comps count samples records planes = record { file = file; image = image comps count samples; settings = s; records = length records; samples = length planes }
 
 -- a refusal of reading, or what is made of the record
 abbrev pub thenFinish : Result → (Jp2 → Finishing) → Finishing
@@ -47,12 +47,12 @@ abbrev pub SameAnswer : Finished → Finished → Type 0
 SameAnswer r s = (n : ℕ) → (r ≡ Planes n → s ≡ Planes n) × (s ≡ Planes n → r ≡ Planes n)
 
 -- order freedom, of the destinations themselves. Had any other file been handed in, alike in all but the order of definitions, with all else equal (of the destinations the length; `others` and `pixels` are what they contain):
--- both answer as many planes, or neither any; and with definitions that are present, applied and clash nowhere, the destinations have the same records, marks aside, and the same samples
+-- both answer as many planes, or neither any; and with definitions that are present, applied and clash nowhere, the destinations have the same records, in edition 1 marks aside, and the same samples
 abbrev pub PictureOrderFree : Handed → Finished → List ℕ → List ℤ → List ℤ → Type 0
 PictureOrderFree h answer records′ planes planes′ =
     (g : List ℕ) (m : Jp2) → AlikeButOrder h g m →
     (other : Finished) (others others′ : List ℕ) (pixels pixels′ : List ℤ) → Done (pictured (withFile g h)) other others others′ pixels pixels′ →
-    SameAnswer answer other × ((n : ℕ) → answer ≡ Planes n → Defined h m → Clear h m → SameDestinations n records′ others′ planes planes′ pixels pixels′)
+    SameAnswer answer other × ((n : ℕ) → answer ≡ Planes n → Defined h m → Clear h m → SameDestinations (h .settings .edition2) n records′ others′ planes planes′ pixels pixels′)
 
 -- demand 3 of the destinations: both halves, and what of the first needs no premise
 pub record Demand3 (h : Handed) (answer : Finished) (records′ : List ℕ) (planes planes′ : List ℤ) : Type 0 where
@@ -70,7 +70,7 @@ pub record Said (h : Handed) (planes : Image) (other : List ℕ) : Type 0 where
   pub right : (m : Jp2) × RightPlanes h m planes
   pub filled : (m : Jp2) × EveryPlane h (counted (h .settings) m) planes
   pub as-many : answered (pictured (withFile other h)) ≡ Planes (planes .count)
-  pub same : SameDestinations (planes .count) (planes .components) (recordsAfter (pictured (withFile other h)) []) [] (planes .samples) [] (samplesAfter (pictured (withFile other h)) [])
+  pub same : SameDestinations (h .settings .edition2) (planes .count) (planes .components) (recordsAfter (pictured (withFile other h)) []) [] (planes .samples) [] (samplesAfter (pictured (withFile other h)) [])
 
 -- so it says something
 abbrev pub Speaks : Handed → Image → List ℕ → Type 0

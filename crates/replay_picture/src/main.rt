@@ -10,6 +10,9 @@ mod compare;
 mod list;
 mod put;
 
+// The crate's answers are those of edition 1 of the camera rules.
+const EDITION_1: u32 = 0;
+
 // The most elements of a given list, and of a destination for records.
 const MOST: usize = 128;
 
@@ -125,6 +128,7 @@ fn outcome(
     cuzhantir::cuzhantir_picture(
         list::file(picture),
         list::number(flag, 0),
+        EDITION_1,
         comps,
         list::number(flag, 1),
         samples,

@@ -36,6 +36,7 @@ use Rattle.write_rules.specs.Colr.{specification}
 use Rattle.write_rules.specs.Cdef as cdefBox
 use Rattle.write_rules.specs.Writing.{Writing, written, front, writeFields, write}
 use Rattle.write_rules.specs.Cases.{grey, greyBoxes, greyStream}
+use Rattle.picture_rules.specs.Edition.{markedPosition, leastCounted}
 use Rattle.picture_rules.specs.Order.{exchange, define, runDefinitions}
 use Rattle.picture_rules.specs.Flat.{flat}
 use Rattle.picture_rules.specs.Image.{Image, image, component, sampleAt, size}
@@ -262,7 +263,7 @@ mostPlanes = 4
 
 -- finished with the record from reading
 abbrev pub finishes : List ℕ → Image → Result → Output
-finishes f i (accepted m) = shownPlanes (finish (record { file = f; image = i; settings = settings 0; records = numbersEach * mostPlanes; samples = mostPlanes }) m)
+finishes f i (accepted m) = shownPlanes (finish (record { file = f; image = i; settings = settings 0 0; records = numbersEach * mostPlanes; samples = mostPlanes }) m)
 finishes f i (refused number place) = refusedAt number place
 
 abbrev pub output : Input → Output
@@ -294,7 +295,7 @@ expected end = []
 expected (c ∣ rest) = wanted c ∷ expected rest
 
 pub marked-cases : results cases ≡ expected cases
-unfolding table number part bytes kindOf headerLength boxLength withBit signature fileType ihdr bpcc lab colr entryBytes rowBytes Cji pclr cmap cdef split readAll lacksIhdr jp2h outer run walk definitionsTo boxHeader box series wrapping BPCi BPC METH EnumCS colours markCount N writtenDefinition bpccBox.bpcc specification cdefBox.cdef front setUp writeFields write exchange define runDefinitions size lowest channels componentOf typeOf displayed lookup valueFor valueOf channelSamples packed startOf counted expanded flat picture fitted colourChecks checks finish
+unfolding table number part bytes kindOf headerLength boxLength withBit signature fileType ihdr bpcc lab colr entryBytes rowBytes Cji pclr cmap cdef split readAll lacksIhdr jp2h outer run walk definitionsTo boxHeader box series wrapping BPCi BPC METH EnumCS colours markCount N writtenDefinition bpccBox.bpcc specification cdefBox.cdef front setUp writeFields write markedPosition leastCounted exchange define runDefinitions size lowest channels componentOf typeOf displayed lookup valueFor valueOf channelSamples packed startOf counted expanded flat picture fitted colourChecks checks finish
 marked-cases = refl
 
 -- and they are fourteen

@@ -17,9 +17,9 @@ ListInside size f l = 0 < l .count → l .place + size * l .count ≤ length f
 unfoldable pub seenAfter : List ℕ → Span → ℕ → ℕ → ℕ
 seenAfter f l n c = table (some (λ j. Cn f l j =? c) n ⇒ 1 ∣ otherwise 0)
 
--- channel c, from 1 up, has no mark
-abbrev pub unmarked : List ℕ → ℕ → Test
-unmarked seen c = 0 <? c and getD seen c 0 =? 0
+-- channel c, from the least that is counted up, has no mark
+abbrev pub unmarked : ℕ → List ℕ → ℕ → Test
+unmarked least seen c = least <? c + 1 and getD seen c 0 =? 0
 
 -- the definitions lie in f and name channels that have a place in a list of marks, none of which is set yet
 pub record Markable (f : List ℕ) (l : Span) (seen : List ℕ) : Type 0 where

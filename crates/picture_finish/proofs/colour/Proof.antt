@@ -23,20 +23,20 @@ enum-known-n c = search needs
 opj-jp2-apply-pclr-requires : tie.Need-opj-jp2-apply-pclr-requires
 opj-jp2-apply-pclr-requires c κs =
     let a = c .before .before .before .before .before .before .before .before .before .args in
-    (c .before .before .before .before .before .before .before .before .before .pre .0, (c .before .before .before .before .before .before .before .before .before .pre .1 .1, planes-are (a .f .now) (a .m) (a .comps .now) (a .count) (a .samples .now) (length (a .records .now)) (length (a .planes .now)) (sym (c .before .before .before .n .given .1) ∙ c .before .before .before .before .before .room .ensures) .1))
+    (c .before .before .before .before .before .before .before .before .before .pre .0, (c .before .before .before .before .before .before .before .before .before .pre .1 .1, planes-are (a .f .now) (a .m) (a .comps .now) (a .count) (a .samples .now) (length (a .records .now)) (length (a .planes .now)) (a .edition2) (sym (c .before .before .before .n .given .1) ∙ c .before .before .before .before .before .room .ensures (a .edition2)) .1))
 
 order-requires : tie.Need-order-requires
 order-requires c κs =
     let a = c .before .before .before .before .before .before .before .before .before .before .before .before .before .before .args in
     let t = c .before .before .before .before .before .before .before .before .before .before .before .before .before .before .pre .0 in
-    let y = planes-are (a .f .now) (a .m) (a .comps .now) (a .count) (a .samples .now) (length (a .records .now)) (length (a .planes .now)) (sym (c .before .before .before .before .before .before .before .before .n .given .1) ∙ c .before .before .before .before .before .before .before .before .before .before .room .ensures) .1 in (
+    let y = planes-are (a .f .now) (a .m) (a .comps .now) (a .count) (a .samples .now) (length (a .records .now)) (length (a .planes .now)) (a .edition2) (sym (c .before .before .before .before .before .before .before .before .n .given .1) ∙ c .before .before .before .before .before .before .before .before .before .before .room .ensures (a .edition2)) .1 in (
       omega (arith, y .all, channels-most (a .f .now) (a .m) (a .comps .now) (a .count) (a .samples .now) t),
-      long-enough (a .f .now) (a .m) (image (a .comps .now) (a .count) (a .samples .now)) (a .records .now) (y .all) (c .before .before .before .before .opj-jp2-apply-pclr .ensures .0),
+      long-enough (a .edition2) (a .f .now) (a .m) (image (a .comps .now) (a .count) (a .samples .now)) (a .records .now) (y .all) (c .before .before .before .before .opj-jp2-apply-pclr .ensures .0),
       t .file .1 .1,
     )
 
 returns : tie.Need-returns
-returns c = let a = c .before .before .before .before .before .before .before .args in refused-done (fitted (a .f .now) (a .m) (image (a .comps .now) (a .count) (a .samples .now)) (length (a .records .now)) (length (a .planes .now))) (a .records .now) (a .planes .now) (c .before .before .before .room .ensures) (c .before .number .given .1)
+returns c = let a = c .before .before .before .before .before .before .before .args in refused-done (fitted (a .edition2) (a .f .now) (a .m) (image (a .comps .now) (a .count) (a .samples .now)) (length (a .records .now)) (length (a .planes .now))) (a .records .now) (a .planes .now) (c .before .before .before .room .ensures (a .edition2)) (c .before .number .given .1)
 
 same-length : tie.Need-same-length
 same-length c = search needs
@@ -47,9 +47,9 @@ same-length-2 c = search needs
 returns-2 : tie.Need-returns-2
 returns-2 c =
     let a = c .before .before .before .before .before .before .before .before .before .before .before .before .before .before .before .before .before .args in
-    let y = planes-are (a .f .now) (a .m) (a .comps .now) (a .count) (a .samples .now) (length (a .records .now)) (length (a .planes .now)) (sym (c .before .before .before .before .before .before .before .before .before .before .before .n .given .1) ∙ c .before .before .before .before .before .before .before .before .before .before .before .before .before .room .ensures) in
+    let y = planes-are (a .f .now) (a .m) (a .comps .now) (a .count) (a .samples .now) (length (a .records .now)) (length (a .planes .now)) (a .edition2) (sym (c .before .before .before .before .before .before .before .before .before .before .before .n .given .1) ∙ c .before .before .before .before .before .before .before .before .before .before .before .before .before .room .ensures (a .edition2)) in
     let p = c .before .before .before .before .before .before .before .opj-jp2-apply-pclr .ensures in
-    finished-done (a .f .now) (a .m) (image (a .comps .now) (a .count) (a .samples .now)) (fitted (a .f .now) (a .m) (image (a .comps .now) (a .count) (a .samples .now)) (length (a .records .now)) (length (a .planes .now))) (y .0) (y .1 .all) (p .0) (c .before .before .order .ensures) (p .1)
+    finished-done (a .edition2) (a .f .now) (a .m) (image (a .comps .now) (a .count) (a .samples .now)) (fitted (a .edition2) (a .f .now) (a .m) (image (a .comps .now) (a .count) (a .samples .now)) (length (a .records .now)) (length (a .planes .now))) (y .0) (y .1 .all) (p .0) (c .before .before .order .ensures) (p .1)
 
 pub colour-spec : {M : Type 1} → statement M
 colour-spec =

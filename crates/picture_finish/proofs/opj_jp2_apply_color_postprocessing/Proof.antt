@@ -26,14 +26,14 @@ counted-requires c κs = tt
 colour-requires : tie.Need-colour-requires
 colour-requires c κs =
     let a = c .before .before .before .before .before .before .before .before .before .before .args in
-    let h = handed (a .f .now) (a .ignore) (a .comps .now) (a .count) (a .samples .now) (a .records .now) (a .planes .now) in
+    let h = handed (a .f .now) (a .s) (a .comps .now) (a .count) (a .samples .now) (a .records .now) (a .planes .now) in
     let y = entry-passed h (a .m) (c .before .before .before .before .before .before .opj-jp2-check-color .ensures) (c .before .before .before .before .n .given .1) in
     rw (c .before .before .counted .ensures) (y .tested, (y .all, y .flags))
 
 returns : tie.Need-returns
 returns c =
     let a = c .before .before .before .before .before .before .before .args in
-    let h = handed (a .f .now) (a .ignore) (a .comps .now) (a .count) (a .samples .now) (a .records .now) (a .planes .now) in
+    let h = handed (a .f .now) (a .s) (a .comps .now) (a .count) (a .samples .now) (a .records .now) (a .planes .now) in
     declined-done (finish h (a .m)) (a .records .now) (a .planes .now) (entry-refused h (a .m) (c .before .before .before .opj-jp2-check-color .ensures) (c .before .number .given .1))
 
 same-length : tie.Need-same-length
@@ -45,7 +45,7 @@ same-length-2 c = search needs
 returns-2 : tie.Need-returns-2
 returns-2 c =
     let a = c .before .before .before .before .before .before .before .before .before .before .before .before .before .before .args in
-    let h = handed (a .f .now) (a .ignore) (a .comps .now) (a .count) (a .samples .now) (a .records .now) (a .planes .now) in
+    let h = handed (a .f .now) (a .s) (a .comps .now) (a .count) (a .samples .now) (a .records .now) (a .planes .now) in
     let y = entry-passed h (a .m) (c .before .before .before .before .before .before .before .before .before .before .opj-jp2-check-color .ensures) (c .before .before .before .before .before .before .before .before .n .given .1) in
     rw (y .on, ← c .before .before .before .before .before .before .counted .ensures) (c .before .before .before .colour .ensures)
 

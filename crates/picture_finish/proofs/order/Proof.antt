@@ -10,7 +10,7 @@ use Rattle.picture_finish.proofs.order.Statement.{statement}
 use Rattle.picture_finish.proofs.order.Tie as tie
 
 returns : tie.Need-returns
-returns c = let b = c .before .before .before .before in let a = b .args in reordered-none (a .f .now) (a .cdef) (a .n) (a .records .now) (omega arith) (b .pre .1)
+returns c = let b = c .before .before .before .before in let a = b .args in reordered-none (a .edition2) (a .f .now) (a .cdef) (a .n) (a .records .now) (omega arith) (b .pre .1)
 
 opj-jp2-apply-cdef-requires : tie.Need-opj-jp2-apply-cdef-requires
 opj-jp2-apply-cdef-requires c κs = tt

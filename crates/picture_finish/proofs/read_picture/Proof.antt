@@ -22,7 +22,7 @@ opj-jp2-apply-color-postprocessing-requires c κs = tt
 returns : tie.Need-returns
 returns c =
     let a = c .before .before .before .before .before .before .before .before .args in
-    let h = handed (a .file .now) (a .ignore) (a .comps .now) (a .count) (a .samples .now) (a .records .now) (a .planes .now) in
+    let h = handed (a .file .now) (a .s) (a .comps .now) (a .count) (a .samples .now) (a .records .now) (a .planes .now) in
     shows-refused h (a .records .now) (a .planes .now) (reading-refused h (c .before .before .before .before .read-file .ensures .0) (c .before .answer .given .1))
 
 same-length : tie.Need-same-length
@@ -34,7 +34,7 @@ same-length-2 c = search needs
 returns-2 : tie.Need-returns-2
 returns-2 c =
     let a = c .before .before .before .before .before .before .before .before .before .before .before .before .args in
-    let h = handed (a .file .now) (a .ignore) (a .comps .now) (a .count) (a .samples .now) (a .records .now) (a .planes .now) in
+    let h = handed (a .file .now) (a .s) (a .comps .now) (a .count) (a .samples .now) (a .records .now) (a .planes .now) in
     shows h (finish h (c .before .before .before .before .before .before .before .before .read-file .result .jp2)) (a .records .now) (a .planes .now) (reading-on h (c .before .before .before .before .before .before .before .before .read-file .ensures .0) (c .before .before .before .before .before .before .match .keys2)) (c .before .before .before .opj-jp2-apply-color-postprocessing .ensures)
 
 pub read-picture-spec : {M : Type 1} → statement M

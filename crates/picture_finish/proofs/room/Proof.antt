@@ -11,7 +11,7 @@ mul-numbers : tie.Need-mul-numbers
 mul-numbers c = search needs
 
 returns : tie.Need-returns
-returns c = let a = c .before .before .before .args in refused-records (a .f .now) (a .m) (a .comps .now) (a .count) (a .samples .now) (a .records) (a .planes) (c .before .before .before .pre .1) (omega arith)
+returns c = let a = c .before .before .before .args in λ edition2. refused-records (a .f .now) (a .m) (a .comps .now) (a .count) (a .samples .now) (a .records) (a .planes) edition2 (c .before .before .before .pre .1) (omega arith)
 
 needed-samples-requires : tie.Need-needed-samples-requires
 needed-samples-requires c κs =
@@ -22,19 +22,19 @@ needed-samples-requires c κs =
 returns-2 : tie.Need-returns-2
 returns-2 c =
     let a = c .before .before .before .before .before .args in
-    refused-samples (a .f .now) (a .m) (a .comps .now) (a .count) (a .samples .now) (a .records) (a .planes) (c .before .before .before .before .before .pre .1)
+    λ edition2. refused-samples (a .f .now) (a .m) (a .comps .now) (a .count) (a .samples .now) (a .records) (a .planes) edition2 (c .before .before .before .before .before .pre .1)
     (c .before .needed-samples .ensures ∙ start-alone (a .f .now) (a .m) (a .comps .now) (a .count) (a .samples .now) (a .n)) (omega arith) (omega arith)
 
 returns-3 : tie.Need-returns-3
 returns-3 c =
     let a = c .before .before .before .before .before .before .args in
-    refused-samples (a .f .now) (a .m) (a .comps .now) (a .count) (a .samples .now) (a .records) (a .planes) (c .before .before .before .before .before .before .pre .1)
+    λ edition2. refused-samples (a .f .now) (a .m) (a .comps .now) (a .count) (a .samples .now) (a .records) (a .planes) edition2 (c .before .before .before .before .before .before .pre .1)
     (c .before .before .needed-samples .ensures ∙ start-alone (a .f .now) (a .m) (a .comps .now) (a .count) (a .samples .now) (a .n)) (omega arith) (omega arith)
 
 returns-4 : tie.Need-returns-4
 returns-4 c =
     let a = c .before .before .before .before .before .before .args in
-    planes-fit (a .f .now) (a .m) (a .comps .now) (a .count) (a .samples .now) (a .records) (a .planes) (c .before .before .before .before .before .before .pre .1)
+    λ edition2. planes-fit (a .f .now) (a .m) (a .comps .now) (a .count) (a .samples .now) (a .records) (a .planes) edition2 (c .before .before .before .before .before .before .pre .1)
     (c .before .before .needed-samples .ensures ∙ start-alone (a .f .now) (a .m) (a .comps .now) (a .count) (a .samples .now) (a .n)) (omega arith) (omega arith) (omega arith)
 
 pub room-spec : {M : Type 1} → statement M

@@ -17,7 +17,7 @@ use Rattle.picture_order.proofs.reorder.Tie as tie
 abbrev Inv-loop : tie.InvT-loop
 Inv-loop f run recs₀ positions₀ channels₀ k₀ recs positions channels k =
     (k ≤ run .count) × (length recs ≡ length recs₀) × (length positions ≡ length positions₀) × (length channels ≡ length channels₀) × Positioned (run .n) positions channels
-    × Agree (run .n) recs positions (arranged (run .n) (definitionsTo f (listOf run) k) (numberAt recs₀))
+    × Agree (run .n) recs positions (arranged (run .edition2) (run .n) (definitionsTo f (listOf run) k) (numberAt recs₀))
 
 abbrev μ-loop : tie.MeasureT-loop
 μ-loop f run recs₀ positions₀ channels₀ k₀ recs positions channels k = run .count - k
@@ -64,7 +64,7 @@ loop-again c =
       d .kept .1 .0 ∙ l .inv .2,
       d .kept .1 .1 .0 ∙ l .inv .3,
       d .ensures .positioned,
-      agree-more (a .f .now) (listOf (a .run)) (a .run .n) (l .k) (numberAt (a .recs .now)) _ _ (d .ensures .does _ (l .inv .5)),
+      agree-more (a .run .edition2) (a .f .now) (listOf (a .run)) (a .run .n) (l .k) (numberAt (a .recs .now)) _ _ (d .ensures .does _ (l .inv .5)),
     )
 
 same-length : tie.Need-same-length Inv-loop μ-loop
@@ -82,8 +82,8 @@ returns c =
     let a = b .args in
     let l = c .before .before .loop in
     let e : l .k ≡ a .run .count = omega arith in
-    whole (a .f .now) (listOf (a .run)) (a .run .n) (a .recs .now) (l .recs) (l .inv .1) (b .pre .0 .2)
-    (subst (λ i. Agree (a .run .n) (l .recs) (l .positions) (arranged (a .run .n) (definitionsTo (a .f .now) (listOf (a .run)) i) (numberAt (a .recs .now)))) e (l .inv .5) .says)
+    whole (a .run .edition2) (a .f .now) (listOf (a .run)) (a .run .n) (a .recs .now) (l .recs) (l .inv .1) (b .pre .0 .2)
+    (subst (λ i. Agree (a .run .n) (l .recs) (l .positions) (arranged (a .run .edition2) (a .run .n) (definitionsTo (a .f .now) (listOf (a .run)) i) (numberAt (a .recs .now)))) e (l .inv .5) .says)
 
 pub reorder-spec : {M : Type 1} → statement M
 reorder-spec =

@@ -33,7 +33,7 @@ returns c =
     let x = c .before .before .before .before .before .before .swap-records in
     record {
       positioned = d .ensures .positioned;
-      does = λ a g. subst (λ l. Agree (b .args .run .n) l (d .last .0) (define (b .args .run .n) (definition (b .args .f .now) (listOf (b .args .run)) (b .args .k)) a)) (sym (c .before .before .mark-if .ensures)) (d .ensures .does (b .args .recs .now) (x .last .0) (b .pre .1) (x .ensures) (x .kept .0) a g);
+      does = λ a g. subst (λ l. Agree (b .args .run .n) l (d .last .0) (define (b .args .run .edition2) (b .args .run .n) (definition (b .args .f .now) (listOf (b .args .run)) (b .args .k)) a)) (sym (c .before .before .mark-if .ensures)) (d .ensures .does (b .args .recs .now) (x .last .0) (b .pre .1) (x .ensures) (x .kept .0) a g);
     }
 
 pub step-spec : {M : Type 1} → statement M

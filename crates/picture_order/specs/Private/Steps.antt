@@ -50,16 +50,16 @@ abbrev pub Runnable : List ℕ → Run → ℕ → Type 0
 Runnable f run room = (0 < run .n) × (run .n ≤ mostComponents) × (numbersEach * run .n ≤ room) × (run .place + 6 * run .count ≤ length f)
 
 -- m is l with d applied
-abbrev pub Does : ℕ → Def → List ℕ → List ℕ → List ℕ → List ℕ → Type 0
-Does n d l positions m positions′ = (a : Arranged) → Agree n l positions a → Agree n m positions′ (define n d a)
+abbrev pub Does : ℕ → ℕ → Def → List ℕ → List ℕ → List ℕ → List ℕ → Type 0
+Does edition2 n d l positions m positions′ = (a : Arranged) → Agree n l positions a → Agree n m positions′ (define edition2 n d a)
 
 -- what definition k asks, and the positions after it: records that change places as asked and are marked as asked have the definition applied
 pub record Decided (f : List ℕ) (run : Run) (k : ℕ) (positions : List ℕ) (r : Ask) (positions′ channels′ : List ℕ) : Type 0 where
   pub first : r .i < run .n
   pub second : r .j < run .n
   pub positioned : Positioned (run .n) positions′ channels′
-  pub does : (l m : List ℕ) → numbersEach * run .n ≤ length l → Exchanged (r .i) (r .j) l m → length m ≡ length l → Does (run .n) (definition f (listOf run) k) l positions (markIf m (r .i) (r .t) (r .on)) positions′
+  pub does : (l m : List ℕ) → numbersEach * run .n ≤ length l → Exchanged (r .i) (r .j) l m → length m ≡ length l → Does (run .edition2) (run .n) (definition f (listOf run) k) l positions (markIf m (r .i) (r .t) (r .on)) positions′
 
 pub record Stepped (f : List ℕ) (run : Run) (k : ℕ) (l positions m positions′ channels′ : List ℕ) : Type 0 where
   pub positioned : Positioned (run .n) positions′ channels′
-  pub does : Does (run .n) (definition f (listOf run) k) l positions m positions′
+  pub does : Does (run .edition2) (run .n) (definition f (listOf run) k) l positions m positions′

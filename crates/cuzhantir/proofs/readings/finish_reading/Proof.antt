@@ -21,7 +21,7 @@ no-reading-requires c κs = tt
 returns : tie.Need-returns
 returns c =
     let a = c .before .before .before .before .before .before .args in
-    let h = handed (a .file .now) (a .ignore) (a .comps .now) (a .count) (a .samples .now) (a .records .now) (a .planes .now) in
+    let h = handed (a .file .now) (a .s) (a .comps .now) (a .count) (a .samples .now) (a .records .now) (a .planes .now) in
     let is = none h (a .reading .now) (said true (noReading (a .reading .now)) (sym (c .before .no-reading .ensures) ∙ c .if1 .taken)) in
     finishes h (a .reading .now) _ (a .records .now) (a .planes .now) (bytes (a .file .now) (c .before .before .before .before .before .shared-slice-known .given)) is (declined-done _ (a .records .now) (a .planes .now) refl)
 
@@ -40,7 +40,7 @@ shared-slice-read-t18 c = let a = c .before .before .before .before .before .bef
 returns-2 : tie.Need-returns-2
 returns-2 c =
     let a = c .before .before .before .before .before .before .before .before .before .before .args in
-    let h = handed (a .file .now) (a .ignore) (a .comps .now) (a .count) (a .samples .now) (a .records .now) (a .planes .now) in
+    let h = handed (a .file .now) (a .s) (a .comps .now) (a .count) (a .samples .now) (a .records .now) (a .planes .now) in
     let f = said false (noReading (a .reading .now)) (sym (c .before .before .before .before .before .no-reading .ensures) ∙ c .before .before .before .before .if1 .left) in
     let is = refused h (a .reading .now) f (c .before .before .if2 .taken) in
     finishes h (a .reading .now) _ (a .records .now) (a .planes .now) (bytes (a .file .now) (c .before .before .before .before .before .before .before .before .before .shared-slice-known .given)) is (declined-done _ (a .records .now) (a .planes .now) refl)
@@ -60,7 +60,7 @@ same-length-2 c = search needs
 returns-3 : tie.Need-returns-3
 returns-3 c =
     let a = c .before .before .before .before .before .before .before .before .before .before .before .before .before .before .before .args in
-    let h = handed (a .file .now) (a .ignore) (a .comps .now) (a .count) (a .samples .now) (a .records .now) (a .planes .now) in
+    let h = handed (a .file .now) (a .s) (a .comps .now) (a .count) (a .samples .now) (a .records .now) (a .planes .now) in
     let f = said false (noReading (a .reading .now)) (sym (c .before .before .before .before .before .before .before .before .before .before .no-reading .ensures) ∙ c .before .before .before .before .before .before .before .before .before .if1 .left) in
     let e = c .before .before .before .opj-jp2-apply-color-postprocessing .ensures in
     let is = on h (a .reading .now) f (c .before .before .before .before .before .before .before .if2 .left) ∙ ap (finish h) (sym (c .before .before .before .before .before .before .record-of .ensures)) in

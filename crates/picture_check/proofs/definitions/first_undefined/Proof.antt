@@ -8,7 +8,7 @@ use Rattle.picture_check.proofs.definitions.first_undefined.Statement.{
 use Rattle.picture_check.proofs.definitions.first_undefined.Tie as tie
 
 returns : tie.Need-returns
-returns c = let a = c .before .before .before .args in none-is (undefined (a .f .now) (a .l)) (a .k) (λ i h. λ p. absurd (p (c .if1 .taken)))
+returns c = let a = c .before .before .before .args in none-is (undefined (a .edition2) (a .f .now) (a .l)) (a .k) (λ i h. λ p. absurd (p (c .if1 .taken)))
 
 first-undefined-of-few-requires : tie.Need-first-undefined-of-few-requires
 first-undefined-of-few-requires c κs = (c .before .before .before .before .pre, omega arith, omega arith)

@@ -48,19 +48,19 @@ use denote.Triple.Table.{entered, cited}
 use denote.Triple.Walked.{says, Stays, stay-dropped, gave-slice, walkOf, AllGo, goes-dropped, goes-gave-slice, Walks, ends-at, walked, walk-meets}
 use denote.Triple.Clauses.{ensured, lasts}
 use denote.Exit.{yes}
-use Rattle.read_record.specs.declared.Span.{Span}
-use Rattle.read_record.proofs.Span as P
-use Rattle.read_record.proofs.Span.Laws as P′
 use Rattle.read_record.proofs.Answer as S
 use Rattle.read_record.proofs.Answer.Laws as S′
 use Rattle.picture_order.specs.Flat.{reordered, answered, afterwards}
 use Rattle.picture_order.specs.Comps.{numbered}
 use Rattle.picture_order.specs.Private.Steps.{listOf}
 use Rattle.picture_order.specs.declared.lent.Comp.{Comp}
+use Rattle.picture_order.specs.declared.Definitions.{Definitions}
 use Rattle.picture_order.specs.declared.task.Task.{Task}
 use Rattle.picture_order.specs.declared.task.Run.{Run}
 use Rattle.picture_order.specs.Private.Task.{task, Tasked}
 use Rattle.picture_order.proofs.lent.Comp as T
+use Rattle.picture_order.proofs.Definitions as P
+use Rattle.picture_order.proofs.Definitions.Laws as P′
 use Rattle.picture_order.proofs.task.Task as K
 use Rattle.picture_order.proofs.task.Task.Laws as K′
 use Rattle.picture_order.proofs.task.Run as Q
@@ -105,21 +105,21 @@ MT = lone (Places .mir)
 places-fit : Room u32 16384
 places-fit = (lit< tt, lit< tt)
 
-abbrev pvals : Span → List Val
+abbrev pvals : Definitions → List Val
 pvals = LL.vals P.the-type P′.the-laws
 
 -- the parameters' places
 abbrev file-slot : Slot 2
 file-slot = shrSliceOf (0 ∷ []) tt (plain (λ _. u8))
 
-abbrev span-slot : Slot 2
-span-slot = plain (λ _. P.the-row)
+abbrev definitions-slot : Slot 2
+definitions-slot = plain (λ _. P.the-row)
 
 abbrev n-slot : Slot 2
 n-slot = plain (λ _. u32)
 
 abbrev stayed : Stays (this.ended .signature .params) (this.ended .kept)
-stayed = (stay-dropped file-slot yes, (stay-dropped span-slot yes, (gave-slice (1 ∷ []) tt (plain (λ _. R)), (stay-dropped n-slot yes, tt))))
+stayed = (stay-dropped file-slot yes, (stay-dropped definitions-slot yes, (gave-slice (1 ∷ []) tt (plain (λ _. R)), (stay-dropped n-slot yes, tt))))
 
 abbrev All : Lft → Lft → List RattleType
 All κ κ₁ = ShrSlice (named 0) κ u8 ∷ P.the-row ∷ MutSlice (named 1) κ₁ R ∷ u32 ∷ []
@@ -173,7 +173,7 @@ module _ {M : Type 1} (𝓤 : URA M) (H : Heap 𝓤) (A : Atoms 𝓤) (W : Given
         use1 W (‵ (partAt Places fullShare g l 0)) (array-whole 𝓤 H A W u32 fullShare 16384 g l 0) $ fpick ! (λ vs. fsplit ! $
         spelt ! Places (Is Places) (shows 𝓤 H A Places) avals atells fullShare g vs l 0 $ use1 W (‵ (fat fullShare MT l 0 (aval g))) (W .laws .raw-at fullShare MT l 0 (aval g)) $ done !)
 
-module _ {M : Type 1} (𝓤 : URA M) (H : Heap 𝓤) (A : Atoms 𝓤) (W : Given 𝓤 H A) (at-mem : Memory → SProp 𝓤) (run : Routine → Fun 𝓤) (κ κ₁ : Lft) (q q₁ : Share) (f : RefT (List ℕ)) (cdef : Span) (cs : RefT (List Comp)) (n : ℕ) where
+module _ {M : Type 1} (𝓤 : URA M) (H : Heap 𝓤) (A : Atoms 𝓤) (W : Given 𝓤 H A) (at-mem : Memory → SProp 𝓤) (run : Routine → Fun 𝓤) (κ κ₁ : Lft) (q q₁ : Share) (f : RefT (List ℕ)) (d : Definitions) (cs : RefT (List Comp)) (n : ℕ) where
   abbrev m : ℕ
   m = length (cs .now)
 
@@ -184,10 +184,10 @@ module _ {M : Type 1} (𝓤 : URA M) (H : Heap 𝓤) (A : Atoms 𝓤) (W : Given
   vcs = sliceVal (cs .ptr) m
 
   abbrev arg : Denots (All κ κ₁)
-  arg = (f, (cdef, (cs, (n, tt))))
+  arg = (f, (d, (cs, (n, tt))))
 
   abbrev at : Valss (All κ κ₁)
-  at = (vf ∷ [], (pvals cdef, (vcs ∷ [], (vint w32 n ∷ [], tt))))
+  at = (vf ∷ [], (pvals d, (vcs ∷ [], (vint w32 n ∷ [], tt))))
 
   abbrev file-own : Fml
   file-own = ShrSlice (named 0) κ u8 .own f (vf ∷ [])
@@ -203,17 +203,17 @@ module _ {M : Type 1} (𝓤 : URA M) (H : Heap 𝓤) (A : Atoms 𝓤) (W : Given
 
   -- ---- the call of `check`
   abbrev to-check-args : Denots (ShrSlice (named 0) κ u8 ∷ P.the-row ∷ usize ∷ u32 ∷ [])
-  to-check-args = (f, (cdef, (m, (n, tt))))
+  to-check-args = (f, (d, (m, (n, tt))))
 
   abbrev to-check : Check 𝓤 H A at-mem run .Ghost
-  to-check = (((κ, tt), (q, tt), tt, to-check-args, (vf ∷ [], (pvals cdef, (vint w64 m ∷ [], (vint w32 n ∷ [], tt))))), tt)
+  to-check = (((κ, tt), (q, tt), tt, to-check-args, (vf ∷ [], (pvals d, (vint w64 m ∷ [], (vint w32 n ∷ [], tt))))), tt)
 
   abbrev Checked : Type 0
   Checked = Unit {0} × (Unit {0} × (Unit {0} × (Unit {0} × Unit {0})))
 
-  asks-check : m < 2 ^ 64 → ent 𝓤 (⋆ 𝓤 H A ((‵ (flft κ q) ⊛ ‵ ftrue) ∷ ‵ file-own ∷ ‵ (P.the-row .own cdef (pvals cdef)) ∷ ‵ (owns (u32 ∷ []) (n, tt) (vint w32 n ∷ [], tt)) ∷ [])) (Check 𝓤 H A at-mem run .pre to-check)
+  asks-check : m < 2 ^ 64 → ent 𝓤 (⋆ 𝓤 H A ((‵ (flft κ q) ⊛ ‵ ftrue) ∷ ‵ file-own ∷ ‵ (P.the-row .own d (pvals d)) ∷ ‵ (owns (u32 ∷ []) (n, tt) (vint w32 n ∷ [], tt)) ∷ [])) (Check 𝓤 H A at-mem run .pre to-check)
   asks-check m-fits =
-      qed W ((‵ (flft κ q) ⊛ ‵ ftrue) ∷ ‵ file-own ∷ ‵ (P.the-row .own cdef (pvals cdef)) ∷ ‵ (owns (u32 ∷ []) (n, tt) (vint w32 n ∷ [], tt)) ∷ []) ∵
+      qed W ((‵ (flft κ q) ⊛ ‵ ftrue) ∷ ‵ file-own ∷ ‵ (P.the-row .own d (pvals d)) ∷ ‵ (owns (u32 ∷ []) (n, tt) (vint w32 n ∷ [], tt)) ∷ []) ∵
       owned ! usize (Is usize) (uint-makes 𝓤 H A W w64) m _ (refl, m-fits) $ move ! (0 ∷ 4 ∷ []) $ fjoin ! $ move ! (3 ∷ 0 ∷ []) $ fjoin ! $ move ! (2 ∷ 0 ∷ []) $ fjoin ! $ move ! (1 ∷ 0 ∷ []) $ join ! $ frame ! $ done !
 
   -- ---- the calls of `begin`
@@ -234,7 +234,7 @@ module _ {M : Type 1} (𝓤 : URA M) (H : Heap 𝓤) (A : Atoms 𝓤) (W : Given
   Lasts = List Comp × (List ℕ × (List ℕ × (Unit {0} × (Unit {0} × Unit {0}))))
 
   abbrev Left : Task → Lasts → Type 0
-  Left r ws = numbered (ws .0) ≡ reordered (f .now) (listOf (r .run)) (r .run .n) (numbered (cs .now))
+  Left r ws = numbered (ws .0) ≡ reordered (r .run .edition2) (f .now) (listOf (r .run)) (r .run .n) (numbered (cs .now))
 
   module _ (r : Task) (l₁ l₂ ν₁ ν₂ : ℕ) (δ₁ δ₂ : GName) (g₁ g₂ : List ℕ) where
     abbrev run-args : Denots (MutSlice (named 0) κ₁ R ∷ MutSlice (named 1) (ν₁ ∷ []) u32 ∷ MutSlice (named 2) (ν₂ ∷ []) u32 ∷ ShrSlice (named 3) κ u8 ∷ Q.the-row ∷ [])
@@ -243,7 +243,7 @@ module _ {M : Type 1} (𝓤 : URA M) (H : Heap 𝓤) (A : Atoms 𝓤) (W : Given
     abbrev to-run : Reorder 𝓤 H A at-mem run .Ghost
     to-run = (((κ₁, (ν₁ ∷ [], (ν₂ ∷ [], (κ, tt)))), (q₁, (fullShare, (fullShare, (q, tt)))), tt, run-args, (vcs ∷ [], (sliceVal (l₁, 0) 16384 ∷ [], (sliceVal (l₂, 0) 16384 ∷ [], (vf ∷ [], (qval (r .run) ∷ [], tt)))))), tt)
 
-    asks-run : Tasked (f .now) cdef m n r → Begun g₁ → Begun g₂ → Is Q.the-row (r .run) (qval (r .run) ∷ [])
+    asks-run : Tasked (d .edition2) (f .now) (d .cdef) m n r → Begun g₁ → Begun g₂ → Is Q.the-row (r .run) (qval (r .run) ∷ [])
         → ent 𝓤 (⋆ 𝓤 H A (‵ (flft κ₁ q₁) ∷ ‵ records-own ∷ ‵ (flft (ν₁ ∷ []) fullShare) ∷ ‵ (Lent l₁ ν₁ δ₁ g₁ 16384) ∷ ‵ (flft (ν₂ ∷ []) fullShare) ∷ ‵ (Lent l₂ ν₂ δ₂ g₂ 16384) ∷ (‵ (flft κ q) ⊛ ‵ ftrue) ∷ ‵ file-own ∷ [])) (Reorder 𝓤 H A at-mem run .pre to-run)
     asks-run e e₁ e₂ is =
         qed W (‵ (flft κ₁ q₁) ∷ ‵ records-own ∷ ‵ (flft (ν₁ ∷ []) fullShare) ∷ ‵ (Lent l₁ ν₁ δ₁ g₁ 16384) ∷ ‵ (flft (ν₂ ∷ []) fullShare) ∷ ‵ (Lent l₂ ν₂ δ₂ g₂ 16384) ∷ (‵ (flft κ q) ⊛ ‵ ftrue) ∷ ‵ file-own ∷ []) ∵
@@ -252,7 +252,7 @@ module _ {M : Type 1} (𝓤 : URA M) (H : Heap 𝓤) (A : Atoms 𝓤) (W : Given
         -- [the records; the two lists; the file]
         nothing ! $ owned ! Q.the-row (Is Q.the-row) (LL.makes Q.the-type Q′.the-plain 𝓤 H A) (r .run) _ is $ fjoin ! $ move ! (4 ∷ 0 ∷ []) $ fjoin ! $ move ! (3 ∷ 0 ∷ []) $ fjoin ! $ move ! (2 ∷ 0 ∷ []) $ fjoin ! $ move ! (1 ∷ 0 ∷ []) $ fjoin ! $ done !
 
-  exits : (r : Task) (zs : List Comp) → (r .answer ≡ answered (f .now) cdef n (numbered (cs .now))) × (numbered zs ≡ afterwards (f .now) cdef n (numbered (cs .now))) → length zs ≡ m → Is S.the-row (r .answer) (EL.vals S.the-type S′.the-laws (r .answer))
+  exits : (r : Task) (zs : List Comp) → (r .answer ≡ answered (f .now) (d .cdef) n (numbered (cs .now))) × (numbered zs ≡ afterwards (d .edition2) (f .now) (d .cdef) n (numbered (cs .now))) → length zs ≡ m → Is S.the-row (r .answer) (EL.vals S.the-type S′.the-laws (r .answer))
       → ent 𝓤 (⋆ 𝓤 H A (‵ (flft κ₁ q₁) ∷ (‵ (flft κ q) ⊛ ‵ ftrue) ∷ ‵ (finally R (cs .name) zs) ∷ [])) (Post (EL.val S.the-type S′.the-laws (r .answer)))
   exits r zs e long is =
       qed W (‵ (flft κ₁ q₁) ∷ (‵ (flft κ q) ⊛ ‵ ftrue) ∷ ‵ (finally R (cs .name) zs) ∷ []) ∵
@@ -262,21 +262,21 @@ module _ {M : Type 1} (𝓤 : URA M) (H : Heap 𝓤) (A : Atoms 𝓤) (W : Given
       owned ! S.the-row (Is S.the-row) (EL.makes S.the-type S′.the-plain 𝓤 H A) (r .answer) _ is $ done !
 
   module _ (C : Calls 𝓤 H) (Λ : Loops 𝓤 H) (fm : FmC 𝓤 H (W .laws) C) (known-check : Triple 𝓤 (C #check) (Check 𝓤 H A at-mem run)) (known-begin : Triple 𝓤 (C #begin) (Begin 𝓤 H A at-mem run)) (known-run : Triple 𝓤 (C #run) (Reorder 𝓤 H A at-mem run)) where
-    walk : Are (All κ κ₁) (Ises (All κ κ₁)) arg at → Room R m → ent 𝓤 (onEntry 𝓤 H A this.signature (κ, (κ₁, tt)) (q, (q₁, tt)) arg at) (WpFn 𝓤 H C Λ code.function (vf ∷ only (pvals cdef) ∷ vcs ∷ vint w32 n ∷ []) Post)
+    walk : Are (All κ κ₁) (Ises (All κ κ₁)) arg at → Room R m → ent 𝓤 (onEntry 𝓤 H A this.signature (κ, (κ₁, tt)) (q, (q₁, tt)) arg at) (WpFn 𝓤 H C Λ code.function (vf ∷ only (pvals d) ∷ vcs ∷ vint w32 n ∷ []) Post)
     walk are room =
-        qed W ((‵ (flft κ q) ⊛ ‵ (flft κ₁ q₁) ⊛ ‵ ftrue) ∷ ‵ (owns (All κ κ₁) arg at) ∷ []) ∵ enter ! C Λ code.function (vf ∷ only (pvals cdef) ∷ vcs ∷ vint w32 n ∷ []) _ $
+        qed W ((‵ (flft κ q) ⊛ ‵ (flft κ₁ q₁) ⊛ ‵ ftrue) ∷ ‵ (owns (All κ κ₁) arg at) ∷ []) ∵ enter ! C Λ code.function (vf ∷ only (pvals d) ∷ vcs ∷ vint w32 n ∷ []) _ $
         alloc1 ! (λ l₀. alloc1 ! (λ l₁. alloc1 ! (λ l₂. alloc1 ! (λ l₃. alloc1 ! (λ l₄. alloc1 ! (λ l₅. alloc1 ! (λ l₆. alloc1 ! (λ l₇. alloc1 ! (λ l₈. alloc1 ! (λ l₉. alloc1 ! (λ l₁₀. alloc1 ! (λ l₁₁. alloc1 ! (λ l₁₂. alloc1 ! (λ l₁₃. alloc1 ! (λ l₁₄. alloc1 ! (λ l₁₅. alloc1 ! (λ l₁₆. alloc0 ! $ params1 ! $
-        pass1 ! (init ! 30 refl (shr-slice-lawful 𝓤 H A W (named 0) κ u8 .typed f _ (are .0) .0)) $ pass1 ! (init ! 28 refl (LL.lawful P.the-type P′.the-laws 𝓤 H A W .typed cdef _ (are .1 .0) .0)) $
+        pass1 ! (init ! 30 refl (shr-slice-lawful 𝓤 H A W (named 0) κ u8 .typed f _ (are .0) .0)) $ pass1 ! (init ! 28 refl (LL.lawful P.the-type P′.the-laws 𝓤 H A W .typed d _ (are .1 .0) .0)) $
         pass1 ! (init ! 26 refl (mut-slice-lawful 𝓤 H A W (named 1) κ₁ R .typed cs _ (are .1 .1 .0) .0)) $ pass1 ! (init ! 24 refl (uint-lawful 𝓤 H A W w32 .typed n _ (are .1 .1 .1 .0) .0)) $ pass0 ! $
         assigns ! (of-opd ! (load ! (from ! (fld ! refl (stop !))) (look-in ! 26 (sub ! 1 refl (whole !))))) (from ! (stop !)) (init ! 22 refl (tt, record { fits = room .0 })) $
         -- what the parameters own, one by one, with f's twice, and the tokens
         move ! (35 ∷ []) $ fsplit ! $ use1 W (‵ file-own ⊛ ‵ file-own) (shr-slice-copy 𝓤 H A W (named 0) κ u8 .twice f (vf ∷ [])) $ split ! $ move ! (2 ∷ []) $ fsplit ! $ move ! (1 ∷ []) $ fsplit ! $ move ! (39 ∷ []) $ split ! $ move ! (1 ∷ []) $ split ! $ move ! (2 ∷ 1 ∷ []) $ join ! $
         -- `check`
-        move ! (0 ∷ 5 ∷ 4 ∷ 3 ∷ []) $ cut ((‵ (flft κ q) ⊛ ‵ ftrue) ∷ ‵ file-own ∷ ‵ (P.the-row .own cdef (pvals cdef)) ∷ ‵ (owns (u32 ∷ []) (n, tt) (vint w32 n ∷ [], tt)) ∷ []) (raw (Check 𝓤 H A at-mem run .pre to-check) ∷ []) _ (asks-check (room .0)) $
+        move ! (0 ∷ 5 ∷ 4 ∷ 3 ∷ []) $ cut ((‵ (flft κ q) ⊛ ‵ ftrue) ∷ ‵ file-own ∷ ‵ (P.the-row .own d (pvals d)) ∷ ‵ (owns (u32 ∷ []) (n, tt) (vint w32 n ∷ [], tt)) ∷ []) (raw (Check 𝓤 H A at-mem run .pre to-check) ∷ []) _ (asks-check (room .0)) $
         calls-at ! fm (Check 𝓤 H A at-mem run) known-check to-check (and-then ! (load ! (from ! (stop !)) (look ! 34 refl)) (and-then ! (load ! (from ! (stop !)) (look ! 32 refl)) (and-then ! (load ! (from ! (stop !)) (look ! 26 refl)) (and-then ! (load ! (from ! (stop !)) (look ! 28 refl)) (no-more !))))) (λ u.
         use1 W (later (some (λ (r : Task). ((‵ (flft κ q) ⊛ ‵ ftrue) ⊛ ‵ (K.the-row .own r (u ∷ []))) ⊛ raw (ensured 𝓤 H A check′.ended (check′.clauses 𝓤 H A at-mem run) (κ, tt) to-check-args tt r)))) (id⊢ 𝓤 _) $ await ! tt $ pick ! (λ r.
-        split ! $ move ! (1 ∷ []) $ use1 W (some (λ (ws : Checked). ‵ (lasts check′.ended (κ, tt) to-check-args ws) ⊛ raw (fact 𝓤 (r ≡ task (f .now) cdef m n)))) (id⊢ 𝓤 _) $ pick ! (λ ws. split ! $
-        move ! (1 ∷ []) $ heard ! (r ≡ task (f .now) cdef m n) (λ e. drop ! $ split ! $ move ! (1 ∷ []) $ peeks ! K.the-row (Is K.the-row) (shows 𝓤 H A K.the-row) r (u ∷ []) (λ is. drop ! $
+        split ! $ move ! (1 ∷ []) $ use1 W (some (λ (ws : Checked). ‵ (lasts check′.ended (κ, tt) to-check-args ws) ⊛ raw (fact 𝓤 (r ≡ task (d .edition2) (f .now) (d .cdef) m n)))) (id⊢ 𝓤 _) $ pick ! (λ ws. split ! $
+        move ! (1 ∷ []) $ heard ! (r ≡ task (d .edition2) (f .now) (d .cdef) m n) (λ e. drop ! $ split ! $ move ! (1 ∷ []) $ peeks ! K.the-row (Is K.the-row) (shows 𝓤 H A K.the-row) r (u ∷ []) (λ is. drop ! $
         land ! (from ! (stop !)) (init ! 24 refl (LL.lawful K.the-type K′.the-laws 𝓤 H A W .typed r _ is .0)) $
         rewrite ! 24 (λ (w : Val). ‵ (fat fullShare K′.mir l₆ 0 w)) (ap only (LL.tells K.the-type K′.the-laws r _ is)) refl $
         -- `begin`
@@ -309,7 +309,7 @@ module _ {M : Type 1} (𝓤 : URA M) (H : Heap 𝓤) (A : Atoms 𝓤) (W : Given
         move ! (24 ∷ 3 ∷ []) $ use2 W (‵ (cells (mem u32) g₂ l₈ 0)) (laid 𝓤 H A W g₂ l₈) $ lft-new ! tt (λ ν₂. move ! (1 ∷ []) $ use1 W (later (some (λ (δ : GName). ‵ (Lent l₈ ν₂ δ g₂ (length g₂)) ⊛ ‵ (flent (ν₂ ∷ []) (Held u32 (length g₂) l₈ 0 δ))))) (lends-slice 𝓤 H A W u32 (named 0) (ν₂ ∷ []) g₂ l₈ 0 (subst (Room u32) (sym (e₂ .0)) places-fit)) $ await ! tt $ pick ! (λ δ₂. split ! $
         rewrite ! 0 (λ (k : ℕ). ‵ (Lent l₈ ν₂ δ₂ g₂ k)) (e₂ .0) refl $
         -- `reorder`
-        move ! (7 ∷ 8 ∷ 5 ∷ 3 ∷ 2 ∷ 0 ∷ 6 ∷ 9 ∷ []) $ cut (‵ (flft κ₁ q₁) ∷ ‵ records-own ∷ ‵ (flft (ν₁ ∷ []) fullShare) ∷ ‵ (Lent l₇ ν₁ δ₁ g₁ 16384) ∷ ‵ (flft (ν₂ ∷ []) fullShare) ∷ ‵ (Lent l₈ ν₂ δ₂ g₂ 16384) ∷ (‵ (flft κ q) ⊛ ‵ ftrue) ∷ ‵ file-own ∷ []) (raw (Reorder 𝓤 H A at-mem run .pre (to-run r l₇ l₈ ν₁ ν₂ δ₁ δ₂ g₁ g₂)) ∷ []) _ (asks-run r l₇ l₈ ν₁ ν₂ δ₁ δ₂ g₁ g₂ (tasked (f .now) cdef m n e) e₁ e₂ (run-is r u is)) $
+        move ! (7 ∷ 8 ∷ 5 ∷ 3 ∷ 2 ∷ 0 ∷ 6 ∷ 9 ∷ []) $ cut (‵ (flft κ₁ q₁) ∷ ‵ records-own ∷ ‵ (flft (ν₁ ∷ []) fullShare) ∷ ‵ (Lent l₇ ν₁ δ₁ g₁ 16384) ∷ ‵ (flft (ν₂ ∷ []) fullShare) ∷ ‵ (Lent l₈ ν₂ δ₂ g₂ 16384) ∷ (‵ (flft κ q) ⊛ ‵ ftrue) ∷ ‵ file-own ∷ []) (raw (Reorder 𝓤 H A at-mem run .pre (to-run r l₇ l₈ ν₁ ν₂ δ₁ δ₂ g₁ g₂)) ∷ []) _ (asks-run r l₇ l₈ ν₁ ν₂ δ₁ δ₂ g₁ g₂ (tasked (d .edition2) (f .now) (d .cdef) m n e) e₁ e₂ (run-is r u is)) $
         calls-at ! fm (Reorder 𝓤 H A at-mem run) known-run (to-run r l₇ l₈ ν₁ ν₂ δ₁ δ₂ g₁ g₂) (and-then ! (load ! (from ! (stop !)) (look ! 11 refl)) (and-then ! (load ! (from ! (stop !)) (look ! 7 refl)) (and-then ! (load ! (from ! (stop !)) (look ! 3 refl)) (and-then ! (load ! (from ! (stop !)) (look ! 31 refl)) (and-then ! (load ! (from ! (fld ! refl (stop !))) (look-in ! 21 (sub ! 1 refl (whole !)))) (no-more !)))))) (λ v.
         use1 W (later (some (λ (z : Unit {0}). ((‵ (flft κ₁ q₁) ⊛ ‵ (flft (ν₁ ∷ []) fullShare) ⊛ ‵ (flft (ν₂ ∷ []) fullShare) ⊛ ‵ (flft κ q) ⊛ ‵ ftrue) ⊛ ‵ (Nothing .own z (v ∷ []))) ⊛ raw (ensured 𝓤 H A run′.ended (run′.clauses 𝓤 H A at-mem run) (κ₁, (ν₁ ∷ [], (ν₂ ∷ [], (κ, tt)))) (run-args r l₇ l₈ ν₁ ν₂ δ₁ δ₂ g₁ g₂) tt z)))) (id⊢ 𝓤 _) $ await ! tt $ pick ! (λ z.
         split ! $ move ! (1 ∷ []) $ use1 W (some (λ (ws : Lasts). ‵ (lasts run′.ended (κ₁, (ν₁ ∷ [], (ν₂ ∷ [], (κ, tt)))) (run-args r l₇ l₈ ν₁ ν₂ δ₁ δ₂ g₁ g₂) ws) ⊛ raw (fact 𝓤 (Left r ws)))) (id⊢ 𝓤 _) $ pick ! (λ zs. split ! $
@@ -321,7 +321,7 @@ module _ {M : Type 1} (𝓤 : URA M) (H : Heap 𝓤) (A : Atoms 𝓤) (W : Given
         assigns ! (of-opd ! (load ! (from ! (fld ! refl (stop !))) (look-in ! 24 (sub ! 0 refl (whole !))))) (from ! (stop !)) (init ! 36 refl (EL.lawful S.the-type S′.the-laws 𝓤 H A W tt .typed (r .answer) _ (answer-is r u is) .0)) $
         returns ! (look ! 36 refl) $ forget ! 6 refl $ forget ! 8 refl $ forget ! 10 refl $ forget ! 12 refl $ forget ! 14 refl $ forget ! 16 refl $ forget ! 18 refl $ forget ! 20 refl $ forget ! 1 refl $ forget ! 0 refl $ forget ! 24 refl $ forget ! 26 refl $ forget ! 28 refl $ forget ! 30 refl $ forget ! 32 refl $ forget ! 34 refl $ forget ! 36 refl $
         move ! (36 ∷ 37 ∷ []) $ free1 ! $ move ! (34 ∷ 35 ∷ []) $ free1 ! $ move ! (32 ∷ 33 ∷ []) $ free1 ! $ move ! (30 ∷ 31 ∷ []) $ free1 ! $ move ! (28 ∷ 29 ∷ []) $ free1 ! $ move ! (26 ∷ 27 ∷ []) $ free1 ! $ move ! (24 ∷ 25 ∷ []) $ free1 ! $ move ! (0 ∷ 23 ∷ []) $ free1 ! $ move ! (0 ∷ 21 ∷ []) $ free1 ! $ move ! (18 ∷ 19 ∷ []) $ free1 ! $ move ! (16 ∷ 17 ∷ []) $ free1 ! $ move ! (14 ∷ 15 ∷ []) $ free1 ! $ move ! (12 ∷ 13 ∷ []) $ free1 ! $ move ! (10 ∷ 11 ∷ []) $ free1 ! $ move ! (8 ∷ 9 ∷ []) $ free1 ! $ move ! (6 ∷ 7 ∷ []) $ free1 ! $ move ! (4 ∷ 5 ∷ []) $ free1 ! $ free0 ! $
-        keep ! (1 ∷ 0 ∷ 3 ∷ []) $ by ! (exits r (zs .0) (together (f .now) cdef n r (cs .now) (zs .0) (tasked (f .now) cdef m n e) did) long₀ (answer-is r u is))))))))))))))))))))))))))))))))))))))))))))))
+        keep ! (1 ∷ 0 ∷ 3 ∷ []) $ by ! (exits r (zs .0) (together (d .edition2) (f .now) (d .cdef) n r (cs .now) (zs .0) (tasked (d .edition2) (f .now) (d .cdef) m n e) did) long₀ (answer-is r u is))))))))))))))))))))))))))))))))))))))))))))))
 
 module _ {M : Type 1} (𝓤 : URA M) (H : Heap 𝓤) (A : Atoms 𝓤) (W : Given 𝓤 H A) (at-mem : Memory → SProp 𝓤) (run : Routine → Fun 𝓤) where
   walks : (C : Calls 𝓤 H) (Λ : Loops 𝓤 H) → FmC 𝓤 H (W .laws) C → Triple 𝓤 (C #check) (Check 𝓤 H A at-mem run) → Triple 𝓤 (C #begin) (Begin 𝓤 H A at-mem run) → Triple 𝓤 (C #run) (Reorder 𝓤 H A at-mem run)
@@ -332,7 +332,7 @@ module _ {M : Type 1} (𝓤 : URA M) (H : Heap 𝓤) (A : Atoms 𝓤) (W : Given
       (λ κs qs bounds a _ are. via 𝓤 _ (fst∗ 𝓤 _ (emp 𝓤)) (walk 𝓤 H A W at-mem run (κs .0) (κs .1 .0) (qs .0) (qs .1 .0) (a .0) (a .1 .0) (a .1 .1 .0) (a .1 .1 .1 .0) C Λ fm kc kb kr are (are .1 .1 .0 .0 .1)))
 
   goes : AllGo 𝓤 H A W 2 (this.signature .params) (this.ended .kept) stayed
-  goes = (goes-dropped 𝓤 H A W 2 file-slot yes (λ κs x f. refl), (goes-dropped 𝓤 H A W 2 span-slot yes (λ κs x f. refl), (goes-gave-slice 𝓤 H A W 2 1 tt (plain (λ _. R)), (goes-dropped 𝓤 H A W 2 n-slot yes (λ κs x f. refl), tt))))
+  goes = (goes-dropped 𝓤 H A W 2 file-slot yes (λ κs x f. refl), (goes-dropped 𝓤 H A W 2 definitions-slot yes (λ κs x f. refl), (goes-gave-slice 𝓤 H A W 2 1 tt (plain (λ _. R)), (goes-dropped 𝓤 H A W 2 n-slot yes (λ κs x f. refl), tt))))
 
   meets : (𝓣 : Tables 𝓤 H) → Triple 𝓤 (𝓣 .C #check) (Check 𝓤 H A at-mem run) → Triple 𝓤 (𝓣 .C #begin) (Begin 𝓤 H A at-mem run) → Triple 𝓤 (𝓣 .C #run) (Reorder 𝓤 H A at-mem run)
       → Meets 𝓤 H A this.signature (WpFn 𝓤 H (𝓣 .C) (𝓣 .Λ) code.function) (this.spec 𝓤 H A at-mem run)

@@ -3,7 +3,7 @@
 use native.Mathlib.Omega.{arith}
 use mathlib.Core.Logic.{⊎-elim}
 use borrow.Author.Tests.{eqb-true, eqb-false}
-use Rattle.picture_order.proofs.Deciding.{def-is, no-record, only-marked, no-place, no-colour, swaps, colour}
+use Rattle.picture_order.proofs.Deciding.{def-is, no-record, only-marked, no-place, no-colour, swaps, colour-first, colour-second}
 use borrow.Author.Needs.{needs}
 use Rattle.picture_order.proofs.positions.decide.Statement.{statement}
 use Rattle.picture_order.proofs.positions.decide.Tie as tie
@@ -82,8 +82,19 @@ same-length-2 c = search needs
 
 returns-5 : tie.Need-returns-5
 returns-5 c =
-    let b = c .before .before .before .before .before .before .before .before .before .before .before .before .before .before .before .before .before .before .before .before in
-    colour (b .args .f .now) (b .args .run) (b .args .k) (b .args .positions .now) (b .args .channels .now) _ _ _ (b .pre .1) (b .pre .0) (def-is (c .before .before .before .before .before .before .before .before .before .before .before .before .before .before .before .read-u16 .ensures) (c .before .before .before .before .before .before .before .before .before .before .before .before .before .before .read-u162 .ensures) (c .before .before .before .before .before .before .before .before .before .before .before .before .before .read-u163 .ensures)) (omega arith) (omega arith) (eqb-false _ _ (c .before .before .before .before .before .before .before .before .before .if3 .left)) _ _ (omega arith) (omega arith) (c .before .before .before .before .swap-positions .ensures .0) (c .before .before .before .before .swap-positions .ensures .1)
+    let b = c .before .before .before .before .before .before .before .before .before .before .before .before .before .before .before .before .before .before .before .before .before .before in
+    colour-first (b .args .f .now) (b .args .run) (b .args .k) (b .args .positions .now) (b .args .channels .now) _ _ _ (b .pre .1) (b .pre .0) (def-is (c .before .before .before .before .before .before .before .before .before .before .before .before .before .before .before .before .before .read-u16 .ensures) (c .before .before .before .before .before .before .before .before .before .before .before .before .before .before .before .before .read-u162 .ensures) (c .before .before .before .before .before .before .before .before .before .before .before .before .before .before .before .read-u163 .ensures)) (omega arith) (omega arith) (eqb-false _ _ (c .before .before .before .before .before .before .before .before .before .before .before .if3 .left)) _ _ (omega arith) (omega arith) (c .before .before .before .before .before .before .swap-positions .ensures .0) (c .before .before .before .before .before .before .swap-positions .ensures .1) (omega arith)
+
+same-length-3 : tie.Need-same-length-3
+same-length-3 c = search needs
+
+same-length-4 : tie.Need-same-length-4
+same-length-4 c = search needs
+
+returns-6 : tie.Need-returns-6
+returns-6 c =
+    let b = c .before .before .before .before .before .before .before .before .before .before .before .before .before .before .before .before .before .before .before .before .before .before in
+    colour-second (b .args .f .now) (b .args .run) (b .args .k) (b .args .positions .now) (b .args .channels .now) _ _ _ (b .pre .1) (b .pre .0) (def-is (c .before .before .before .before .before .before .before .before .before .before .before .before .before .before .before .before .before .read-u16 .ensures) (c .before .before .before .before .before .before .before .before .before .before .before .before .before .before .before .before .read-u162 .ensures) (c .before .before .before .before .before .before .before .before .before .before .before .before .before .before .before .read-u163 .ensures)) (omega arith) (omega arith) (eqb-false _ _ (c .before .before .before .before .before .before .before .before .before .before .before .if3 .left)) _ _ (omega arith) (omega arith) (c .before .before .before .before .before .before .swap-positions .ensures .0) (c .before .before .before .before .before .before .swap-positions .ensures .1) (omega arith)
 
 pub decide-spec : {M : Type 1} → statement M
 decide-spec =
@@ -109,4 +120,7 @@ decide-spec =
     swap-positions-requires
     same-length
     same-length-2
-    returns-5)
+    returns-5
+    same-length-3
+    same-length-4
+    returns-6)

@@ -33,25 +33,25 @@ nothing-requires-3 c κs = tt
 
 returns-3 : tie.Need-returns-3
 unfolding task
-returns-3 c = c .nothing3 .ensures ∙ row 0 _ (λ x y. said true (definitionsOutside (c .before .before .before .before .before .before .args .f .now) (c .before .before .before .before .before .before .args .cdef)) (sym (c .before .if3 .taken) ∙ c .before .before .definitions-outside .ensures)) refl
+returns-3 c = c .nothing3 .ensures ∙ row 0 _ (λ x y. said true (definitionsOutside (c .before .before .before .before .before .before .before .args .f .now) (c .before .before .before .before .before .before .before .args .d .cdef)) (sym (c .before .if3 .taken) ∙ c .before .before .definitions-outside .ensures)) refl
 
 nothing-requires-4 : tie.Need-nothing-requires-4
 nothing-requires-4 c κs = tt
 
 returns-4 : tie.Need-returns-4
 unfolding task
-returns-4 c = c .nothing4 .ensures ∙ row 1 _ ((omega arith, (omega arith, said false (definitionsOutside (c .before .before .before .before .before .before .before .args .f .now) (c .before .before .before .before .before .before .before .args .cdef)) (sym (c .before .before .if3 .left) ∙ c .before .before .before .definitions-outside .ensures))), λ x. absurd (x (omega arith))) refl
+returns-4 c = c .nothing4 .ensures ∙ row 1 _ ((omega arith, (omega arith, said false (definitionsOutside (c .before .before .before .before .before .before .before .before .args .f .now) (c .before .before .before .before .before .before .before .before .args .d .cdef)) (sym (c .before .before .if3 .left) ∙ c .before .before .before .definitions-outside .ensures))), λ x. absurd (x (omega arith))) refl
 
 nothing-requires-5 : tie.Need-nothing-requires-5
 nothing-requires-5 c κs = tt
 
 returns-5 : tie.Need-returns-5
 unfolding task
-returns-5 c = c .nothing5 .ensures ∙ row 1 _ ((omega arith, (omega arith, said false (definitionsOutside (c .before .before .before .before .before .before .before .before .before .args .f .now) (c .before .before .before .before .before .before .before .before .before .args .cdef)) (sym (c .before .before .before .before .if3 .left) ∙ c .before .before .before .before .before .definitions-outside .ensures))), λ x. omega arith) refl
+returns-5 c = c .nothing5 .ensures ∙ row 1 _ ((omega arith, (omega arith, said false (definitionsOutside (c .before .before .before .before .before .before .before .before .before .before .args .f .now) (c .before .before .before .before .before .before .before .before .before .before .args .d .cdef)) (sym (c .before .before .before .before .if3 .left) ∙ c .before .before .before .before .before .definitions-outside .ensures))), λ x. omega arith) refl
 
 returns-6 : tie.Need-returns-6
 unfolding task
-returns-6 c = row 2 _ ((omega arith, (omega arith, said false (definitionsOutside (c .before .before .before .before .before .before .before .before .args .f .now) (c .before .before .before .before .before .before .before .before .args .cdef)) (sym (c .before .before .before .if3 .left) ∙ c .before .before .before .before .definitions-outside .ensures))), ((omega arith, omega arith), tt)) refl
+returns-6 c = row 2 _ ((omega arith, (omega arith, said false (definitionsOutside (c .before .before .before .before .before .before .before .before .before .args .f .now) (c .before .before .before .before .before .before .before .before .before .args .d .cdef)) (sym (c .before .before .before .if3 .left) ∙ c .before .before .before .before .definitions-outside .ensures))), ((omega arith, omega arith), tt)) refl
 
 pub check-spec : {M : Type 1} → statement M
 check-spec =

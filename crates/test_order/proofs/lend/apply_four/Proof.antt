@@ -50,15 +50,15 @@ use denote.Triple.Table.{entered, cited}
 use denote.Triple.Walked.{says, Stays, stay-dropped, walkOf, AllGo, goes-dropped, Walks, ends-at, walked, walk-meets}
 use denote.Triple.Clauses.{ensured, lasts}
 use denote.Exit.{yes}
-use Rattle.read_record.specs.declared.Span.{Span}
 use Rattle.read_record.specs.declared.Answer.{Answer}
-use Rattle.read_record.proofs.Span as P
-use Rattle.read_record.proofs.Span.Laws as P′
 use Rattle.read_record.proofs.Answer as S
 use Rattle.read_record.proofs.Answer.Laws as S′
 use Rattle.picture_order.specs.Flat.{answered, afterwards}
 use Rattle.picture_order.specs.Comps.{numbered}
+use Rattle.picture_order.specs.declared.Definitions.{Definitions}
 use Rattle.picture_order.specs.declared.lent.Comp.{Comp}
+use Rattle.picture_order.proofs.Definitions as P
+use Rattle.picture_order.proofs.Definitions.Laws as P′
 use Rattle.picture_order.proofs.lent.Comp as T
 use Rattle.picture_order.proofs.lent.Comp.Laws as T′
 use Rattle.picture_order.proofs.lent.opj_jp2_apply_cdef as core
@@ -92,15 +92,15 @@ atells = array-tells R (LL.vals T.the-type T′.the-laws) (LL.tells T.the-type T
 abbrev MT : Ty
 MT = lone (Arr4 .mir)
 
-abbrev pvals : Span → List Val
+abbrev pvals : Definitions → List Val
 pvals = LL.vals P.the-type P′.the-laws
 
 -- the parameters' places
 abbrev file-slot : Slot 1
 file-slot = shrSliceOf (0 ∷ []) tt (plain (λ _. u8))
 
-abbrev span-slot : Slot 1
-span-slot = plain (λ _. P.the-row)
+abbrev definitions-slot : Slot 1
+definitions-slot = plain (λ _. P.the-row)
 
 abbrev arr-slot : Slot 1
 arr-slot = ArrayOf (plain (λ _. R)) (λ _. tt) 4
@@ -109,7 +109,7 @@ abbrev n-slot : Slot 1
 n-slot = plain (λ _. u32)
 
 abbrev stayed : Stays (this.ended .signature .params) (this.ended .kept)
-stayed = (stay-dropped file-slot yes, (stay-dropped span-slot yes, (stay-dropped arr-slot yes, (stay-dropped n-slot yes, tt))))
+stayed = (stay-dropped file-slot yes, (stay-dropped definitions-slot yes, (stay-dropped arr-slot yes, (stay-dropped n-slot yes, tt))))
 
 abbrev Own : Lft → List RattleType
 Own κ = ShrSlice (named 0) κ u8 ∷ P.the-row ∷ Arr4 ∷ u32 ∷ []
@@ -167,24 +167,24 @@ module _ {M : Type 1} (𝓤 : URA M) (H : Heap 𝓤) (A : Atoms 𝓤) (W : Given
       use1 W (‵ (partAt Arr4 fullShare g l 0)) (array-whole 𝓤 H A W R fullShare 4 g l 0) $ fpick ! (λ vs. fsplit ! $
       spelt ! Arr4 (Is Arr4) (shows 𝓤 H A Arr4) avals atells fullShare g vs l 0 $ use1 W (‵ (fat fullShare MT l 0 (aval g))) (W .laws .raw-at fullShare MT l 0 (aval g)) $ done !)
 
-module _ {M : Type 1} (𝓤 : URA M) (H : Heap 𝓤) (A : Atoms 𝓤) (W : Given 𝓤 H A) (at-mem : Memory → SProp 𝓤) (run : Routine → Fun 𝓤) (κ : Lft) (q : Share) (f : RefT (List ℕ)) (cdef : Span) (cs : List Comp) (n : ℕ) (four : length cs ≡ 4) where
+module _ {M : Type 1} (𝓤 : URA M) (H : Heap 𝓤) (A : Atoms 𝓤) (W : Given 𝓤 H A) (at-mem : Memory → SProp 𝓤) (run : Routine → Fun 𝓤) (κ : Lft) (q : Share) (f : RefT (List ℕ)) (d : Definitions) (cs : List Comp) (n : ℕ) (four : length cs ≡ 4) where
   abbrev arg : Denots (Own κ)
-  arg = (f, (cdef, (cs, (n, tt))))
+  arg = (f, (d, (cs, (n, tt))))
 
   abbrev vf : Val
   vf = sliceVal (f .ptr) (length (f .now))
 
   abbrev at : Valss (Own κ)
-  at = (vf ∷ [], (pvals cdef, (avals cs, (vint w32 n ∷ [], tt))))
+  at = (vf ∷ [], (pvals d, (avals cs, (vint w32 n ∷ [], tt))))
 
   abbrev passed : List Val
-  passed = vf ∷ only (pvals cdef) ∷ aval cs ∷ vint w32 n ∷ []
+  passed = vf ∷ only (pvals d) ∷ aval cs ∷ vint w32 n ∷ []
 
   abbrev file-own : Fml
   file-own = ShrSlice (named 0) κ u8 .own f (vf ∷ [])
 
-  abbrev span-own : Fml
-  span-own = P.the-row .own cdef (pvals cdef)
+  abbrev definitions-own : Fml
+  definitions-own = P.the-row .own d (pvals d)
 
   abbrev n-own : Fml
   n-own = owns (u32 ∷ []) (n, tt) (vint w32 n ∷ [], tt)
@@ -194,7 +194,7 @@ module _ {M : Type 1} (𝓤 : URA M) (H : Heap 𝓤) (A : Atoms 𝓤) (W : Given
 
   -- what the call promises
   abbrev Said : Answer → List Comp → Type 0
-  Said r zs = (r ≡ answered (f .now) cdef n (numbered cs)) × (numbered zs ≡ afterwards (f .now) cdef n (numbered cs))
+  Said r zs = (r ≡ answered (f .now) (d .cdef) n (numbered cs)) × (numbered zs ≡ afterwards (d .edition2) (f .now) (d .cdef) n (numbered cs))
 
   -- ---- the call: the local l is lent for the lifetime ν under the name δ
   module _ (l : ℕ) (ν : ℕ) (δ : GName) where
@@ -202,17 +202,17 @@ module _ {M : Type 1} (𝓤 : URA M) (H : Heap 𝓤) (A : Atoms 𝓤) (W : Given
     ref = record { ptr = (l, 0); name = δ; now = cs }
 
     abbrev x : Denots (ShrSlice (named 0) κ u8 ∷ P.the-row ∷ MutSlice (named 1) (ν ∷ []) R ∷ u32 ∷ [])
-    x = (f, (cdef, (ref, (n, tt))))
+    x = (f, (d, (ref, (n, tt))))
 
     abbrev Lent : ℕ → Fml
     Lent k = MutSlice (named 1) (ν ∷ []) R .own ref (sliceVal (l, 0) k ∷ [])
 
     abbrev to : Core 𝓤 H A at-mem run .Ghost
-    to = (((κ, (ν ∷ [], tt)), (q, (fullShare, tt)), tt, x, (vf ∷ [], (pvals cdef, (sliceVal (l, 0) 4 ∷ [], (vint w32 n ∷ [], tt))))), tt)
+    to = (((κ, (ν ∷ [], tt)), (q, (fullShare, tt)), tt, x, (vf ∷ [], (pvals d, (sliceVal (l, 0) 4 ∷ [], (vint w32 n ∷ [], tt))))), tt)
 
-    asked : ent 𝓤 (⋆ 𝓤 H A ((‵ (flft κ q) ⊛ ‵ ftrue) ∷ ‵ (flft (ν ∷ []) fullShare) ∷ ‵ (Lent 4) ∷ ‵ n-own ∷ ‵ span-own ∷ ‵ file-own ∷ [])) (Core 𝓤 H A at-mem run .pre to)
+    asked : ent 𝓤 (⋆ 𝓤 H A ((‵ (flft κ q) ⊛ ‵ ftrue) ∷ ‵ (flft (ν ∷ []) fullShare) ∷ ‵ (Lent 4) ∷ ‵ n-own ∷ ‵ definitions-own ∷ ‵ file-own ∷ [])) (Core 𝓤 H A at-mem run .pre to)
     asked =
-        qed W ((‵ (flft κ q) ⊛ ‵ ftrue) ∷ ‵ (flft (ν ∷ []) fullShare) ∷ ‵ (Lent 4) ∷ ‵ n-own ∷ ‵ span-own ∷ ‵ file-own ∷ []) ∵
+        qed W ((‵ (flft κ q) ⊛ ‵ ftrue) ∷ ‵ (flft (ν ∷ []) fullShare) ∷ ‵ (Lent 4) ∷ ‵ n-own ∷ ‵ definitions-own ∷ ‵ file-own ∷ []) ∵
         split ! $ move ! (2 ∷ 1 ∷ []) $ join ! $ move ! (1 ∷ 0 ∷ []) $ join ! $
         move ! (1 ∷ 2 ∷ []) $ fjoin ! $ move ! (2 ∷ 0 ∷ []) $ fjoin ! $ move ! (2 ∷ 0 ∷ []) $ fjoin ! $ move ! (1 ∷ 0 ∷ []) $ join ! $ frame ! $ done !
 
@@ -231,20 +231,20 @@ module _ {M : Type 1} (𝓤 : URA M) (H : Heap 𝓤) (A : Atoms 𝓤) (W : Given
     walk are =
         qed W ((‵ (flft κ q) ⊛ ‵ ftrue) ∷ ‵ (owns (Own κ) arg at) ∷ []) ∵ enter ! C Λ code.function passed _ $
         alloc1 ! (λ l₀. alloc1 ! (λ l₁. alloc1 ! (λ l₂. alloc1 ! (λ l₃. alloc1 ! (λ l₄. alloc1 ! (λ l₅. alloc1 ! (λ l₆. alloc1 ! (λ l₇. alloc1 ! (λ l₈. alloc1 ! (λ l₉. alloc0 ! $ params1 ! $
-        pass1 ! (init ! 16 refl (shr-slice-lawful 𝓤 H A W (named 0) κ u8 .typed f _ (are .0) .0)) $ pass1 ! (init ! 14 refl (LL.lawful P.the-type P′.the-laws 𝓤 H A W .typed cdef _ (are .1 .0) .0)) $
+        pass1 ! (init ! 16 refl (shr-slice-lawful 𝓤 H A W (named 0) κ u8 .typed f _ (are .0) .0)) $ pass1 ! (init ! 14 refl (LL.lawful P.the-type P′.the-laws 𝓤 H A W .typed d _ (are .1 .0) .0)) $
         pass1 ! (init ! 12 refl (typed cs (are .1 .1 .0))) $ pass1 ! (init ! 10 refl (uint-lawful 𝓤 H A W w32 .typed n _ (are .1 .1 .1 .0) .0)) $ pass0 ! $
         assigns ! (of-opd ! (load ! (from ! (stop !)) (look ! 12 refl))) (from ! (stop !)) (init ! 8 refl (typed cs (are .1 .1 .0))) $
         assigns ! (addr ! (from ! (stop !))) (from ! (stop !)) (init ! 4 refl (tt, tt)) $
         assigns ! (agg ! (and-then ! (load ! (from ! (stop !)) (look ! 4 refl)) (and-then ! (lit ! tt) (no-more !)))) (from ! (stop !)) (init ! 2 refl (tt, (tt, (record { fits = lit< tt }, tt)))) $
-        -- what the parameters own, one by one: [cs; n; cdef; f; _9 at 4; …; _8; …; _7; …; _6; …; _5 at 12; what frees it; _4; …; the token at 24]
+        -- what the parameters own, one by one: [cs; n; d; f; _9 at 4; …; _8; …; _7; …; _6; …; _5 at 12; what frees it; _4; …; the token at 24]
         move ! (21 ∷ []) $ fsplit ! $ move ! (1 ∷ []) $ fsplit ! $ move ! (1 ∷ []) $ fsplit ! $
         -- the local is lent
         move ! (12 ∷ 0 ∷ []) $ use2 W (‵ (cells (mem R) cs l₅ 0)) (laid 𝓤 H A W cs l₅) $
         lft-new ! tt (λ ν. move ! (1 ∷ []) $ use1 W (later (some (λ (δ : GName). ‵ (Lent l₅ ν δ (length cs)) ⊛ ‵ (flent (ν ∷ []) (Held R (length cs) l₅ 0 δ))))) (lends-slice 𝓤 H A W R (named 1) (ν ∷ []) cs l₅ 0 (subst (Room R) (sym four) four-fit)) $ await ! tt $ pick ! (λ δ. split ! $
         rewrite ! 0 (λ (k : ℕ). ‵ (Lent l₅ ν δ k)) four refl $
-        -- [the reference; the lender's part; the token made; n; cdef; f; _9 at 6; …; the token at 25]
+        -- [the reference; the lender's part; the token made; n; d; f; _9 at 6; …; the token at 25]
         move ! (25 ∷ 2 ∷ 0 ∷ 3 ∷ 4 ∷ 5 ∷ []) $
-        cut ((‵ (flft κ q) ⊛ ‵ ftrue) ∷ ‵ (flft (ν ∷ []) fullShare) ∷ ‵ (Lent l₅ ν δ 4) ∷ ‵ n-own ∷ ‵ span-own ∷ ‵ file-own ∷ []) (raw (Core 𝓤 H A at-mem run .pre (to l₅ ν δ)) ∷ []) _ (asked l₅ ν δ) $
+        cut ((‵ (flft κ q) ⊛ ‵ ftrue) ∷ ‵ (flft (ν ∷ []) fullShare) ∷ ‵ (Lent l₅ ν δ 4) ∷ ‵ n-own ∷ ‵ definitions-own ∷ ‵ file-own ∷ []) (raw (Core 𝓤 H A at-mem run .pre (to l₅ ν δ)) ∷ []) _ (asked l₅ ν δ) $
         -- [what it asks; the lender's part; _9 at 2; _8 at 4; _7 at 6; _6 at 8; what frees _5 at 10; _4 at 11; _3 at 13; _2 at 15; _1 at 17; room for _0 at 19; …]
         calls-at ! fm (Core 𝓤 H A at-mem run) known (to l₅ ν δ) (and-then ! (load ! (from ! (stop !)) (look ! 17 refl)) (and-then ! (load ! (from ! (stop !)) (look ! 15 refl)) (and-then ! (load ! (from ! (stop !)) (look ! 4 refl)) (and-then ! (load ! (from ! (stop !)) (look ! 11 refl)) (no-more !))))) (λ u.
         use1 W (later (some (λ (r : Answer). ((‵ (flft κ q) ⊛ ‵ (flft (ν ∷ []) fullShare) ⊛ ‵ ftrue) ⊛ ‵ (S.the-row .own r (u ∷ []))) ⊛ raw (ensured 𝓤 H A core.ended (core.clauses 𝓤 H A at-mem run) (κ, (ν ∷ [], tt)) (x l₅ ν δ) tt r)))) (id⊢ 𝓤 _) $ await ! tt $ pick ! (λ r.
@@ -275,7 +275,7 @@ module _ {M : Type 1} (𝓤 : URA M) (H : Heap 𝓤) (A : Atoms 𝓤) (W : Given
       (λ κs qs bounds a _ are. via 𝓤 _ (fst∗ 𝓤 _ (emp 𝓤)) (walk 𝓤 H A W at-mem run (κs .0) (qs .0) (a .0) (a .1 .0) (a .1 .1 .0) (a .1 .1 .1 .0) (are .1 .1 .0 .1 .0 .1) C Λ fm known are))
 
   goes : AllGo 𝓤 H A W 1 (this.signature .params) (this.ended .kept) stayed
-  goes = (goes-dropped 𝓤 H A W 1 file-slot yes (λ κs x f. refl), (goes-dropped 𝓤 H A W 1 span-slot yes (λ κs x f. refl), (goes-dropped 𝓤 H A W 1 arr-slot yes (λ κs x f. refl), (goes-dropped 𝓤 H A W 1 n-slot yes (λ κs x f. refl), tt))))
+  goes = (goes-dropped 𝓤 H A W 1 file-slot yes (λ κs x f. refl), (goes-dropped 𝓤 H A W 1 definitions-slot yes (λ κs x f. refl), (goes-dropped 𝓤 H A W 1 arr-slot yes (λ κs x f. refl), (goes-dropped 𝓤 H A W 1 n-slot yes (λ κs x f. refl), tt))))
 
   meets : (𝓣 : Tables 𝓤 H) → Triple 𝓤 (𝓣 .C #core) (Core 𝓤 H A at-mem run) → Meets 𝓤 H A this.signature (WpFn 𝓤 H (𝓣 .C) (𝓣 .Λ) code.function) (this.spec 𝓤 H A at-mem run)
   meets 𝓣 known = walk-meets 𝓤 H A this.ended stayed W goes (this.clauses 𝓤 H A at-mem run) (WpFn 𝓤 H (𝓣 .C) (𝓣 .Λ) code.function) (WpFn-mono 𝓤 H (W .laws) 𝓣 code.function) (walks (𝓣 .C) (𝓣 .Λ) (fmOf 𝓤 H (W .laws) 𝓣) known)
