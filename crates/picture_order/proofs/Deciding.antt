@@ -6,7 +6,9 @@ use mathlib.Core.Bool.{true, false}
 use mathlib.Core.List.{List}
 use native.Mathlib.Omega.{arith}
 use lib.ListN.{length, getD, set}
+use Rattle.box_number.specs.Table.{_=?_}
 use Rattle.box_number.proofs.Rows.{row}
+use Rattle.box_number.proofs.Indices.{decide}
 use Rattle.read_channels.specs.Definitions.{Def, def, definition}
 use Rattle.picture_rules.specs.Edition.{markedPosition}
 use Rattle.picture_rules.specs.Order.{swapped, marked}
@@ -105,12 +107,16 @@ module _ (f : List ℕ) (run : Run) (k : ℕ) (positions channels : List ℕ) (c
                   (agree-mark n m _ _ i 0 (omega (arith, y)) (agree-swap n positions channels w c p q hc refl q-below l m a (turn l m x) g))));
             }
 
-        -- edition 1: the record that is now at the old position
-        pub colour-first : run .edition2 ≡ 0 → Decided f run k positions (exchanged p q) positions′ channels′
+        -- edition 1 marks the record that is now at the old position, edition 2 the channel's own
+        pub colour : {i j : ℕ} → i ≡ markedPosition (run .edition2) p q → j ≡ markedPosition (run .edition2) q p → Decided f run k positions (exchanged i j) positions′ channels′
         unfolding markedPosition
-        colour-first one = marked-at p q below q-below (sym (row 0 _ one refl)) (λ l m x. x)
-
-        -- edition 2: the channel's own
-        pub colour-second : (run .edition2 ≡ 0 → ⊥) → Decided f run k positions (exchanged q p) positions′ channels′
-        unfolding markedPosition
-        colour-second two = marked-at q p q-below below (sym (row 1 _ (two, tt) refl)) (λ l m x r j b. x r j b ∙ ap (λ i. numberAt l i j) (Exchange.flip q p r))
+        colour {i} {j} at other =
+            decide (run .edition2 =? 0)
+            (λ one.
+            let here : i ≡ p = at ∙ sym (row 0 _ one refl) in
+            let there : j ≡ q = other ∙ sym (row 0 _ one refl) in
+            rw (here, there) (marked-at p q below q-below (sym (row 0 _ one refl)) (λ l m x. x)))
+            (λ two.
+            let here : i ≡ q = at ∙ sym (row 1 _ (two, tt) refl) in
+            let there : j ≡ p = other ∙ sym (row 1 _ (two, tt) refl) in
+            rw (here, there) (marked-at q p q-below below (sym (row 1 _ (two, tt) refl)) (λ l m x r j b. x r j b ∙ ap (λ i. numberAt l i j) (Exchange.flip q p r))))

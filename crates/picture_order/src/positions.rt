@@ -2,6 +2,7 @@
 ghost use Prim.Native.Nat.{ℕ, _+_, _*_, _≤_, _<_};
 ghost use mathlib.Core.Path.{_≡_};
 ghost use lib.ListN.{getD, length, set};
+ghost use Rattle.picture_rules.specs.Edition.{markedPosition};
 ghost use Rattle.picture_order.specs.Private.Steps.{Decided, Positioned};
 use crate::task::Run;
 
@@ -55,6 +56,16 @@ fn swap_positions(positions: &mut [u32], channels: &mut [u32], c: usize, p: usiz
     channels[p] = e;
 }
 
+// A colour definition moves its channel's record from position p to position q: the position whose record then takes the mark. In edition 1 it is the old one, in edition 2 that of the channel's own record.
+fn marked_position(edition2: u32, p: usize, q: usize) -> usize
+    ensures { λ r. ⌜ r ≡ markedPosition edition2 p q ⌝ }
+{
+    if edition2 == 0 {
+        return p;
+    }
+    q
+}
+
 // Applies definition k of a run to the positions, and answers what it asks of the records.
 pub fn decide(positions: &mut [u32], channels: &mut [u32], f: &[u8], run: Run, k: usize) -> Ask
     requires { ⌜ (0 < run .n) × Positioned (run .n) (now positions) (now channels) × (run .place + 6 * k + 6 ≤ length (now f)) ⌝ }
@@ -100,18 +111,9 @@ pub fn decide(positions: &mut [u32], channels: &mut [u32], f: &[u8], run: Run, k
     }
     let q = asoc - 1;
     swap_positions(positions, channels, c, p, q);
-    // the record that takes the mark: edition 1 the one that is now at the old position, edition 2 the channel's own
-    if run.edition2 == 0 {
-        return Ask {
-            i: p,
-            j: q,
-            t: 0,
-            on: true,
-        };
-    }
     Ask {
-        i: q,
-        j: p,
+        i: marked_position(run.edition2, p, q),
+        j: marked_position(run.edition2, q, p),
         t: 0,
         on: true,
     }

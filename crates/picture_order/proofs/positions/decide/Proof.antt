@@ -3,7 +3,7 @@
 use native.Mathlib.Omega.{arith}
 use mathlib.Core.Logic.{⊎-elim}
 use borrow.Author.Tests.{eqb-true, eqb-false}
-use Rattle.picture_order.proofs.Deciding.{def-is, no-record, only-marked, no-place, no-colour, swaps, colour-first, colour-second}
+use Rattle.picture_order.proofs.Deciding.{def-is, no-record, only-marked, no-place, no-colour, swaps, colour}
 use borrow.Author.Needs.{needs}
 use Rattle.picture_order.proofs.positions.decide.Statement.{statement}
 use Rattle.picture_order.proofs.positions.decide.Tie as tie
@@ -74,6 +74,12 @@ swap-positions-requires c κs =
     let b = c .before .before .before .before .before .before .before .before .before .before .before .before .before .before .before in
     swaps (b .args .f .now) (b .args .run) (b .args .k) (b .args .positions .now) (b .args .channels .now) _ _ _ (b .pre .1) (b .pre .0) (def-is (c .before .before .before .before .before .before .before .before .before .before .read-u16 .ensures) (c .before .before .before .before .before .before .before .before .before .read-u162 .ensures) (c .before .before .before .before .before .before .before .before .read-u163 .ensures)) (omega arith) (omega arith) (eqb-false _ _ (c .before .before .before .before .if3 .left)) (omega arith)
 
+marked-position-requires : tie.Need-marked-position-requires
+marked-position-requires c κs = tt
+
+marked-position-requires-2 : tie.Need-marked-position-requires-2
+marked-position-requires-2 c κs = tt
+
 same-length : tie.Need-same-length
 same-length c = search needs
 
@@ -83,18 +89,7 @@ same-length-2 c = search needs
 returns-5 : tie.Need-returns-5
 returns-5 c =
     let b = c .before .before .before .before .before .before .before .before .before .before .before .before .before .before .before .before .before .before .before .before .before .before in
-    colour-first (b .args .f .now) (b .args .run) (b .args .k) (b .args .positions .now) (b .args .channels .now) _ _ _ (b .pre .1) (b .pre .0) (def-is (c .before .before .before .before .before .before .before .before .before .before .before .before .before .before .before .before .before .read-u16 .ensures) (c .before .before .before .before .before .before .before .before .before .before .before .before .before .before .before .before .read-u162 .ensures) (c .before .before .before .before .before .before .before .before .before .before .before .before .before .before .before .read-u163 .ensures)) (omega arith) (omega arith) (eqb-false _ _ (c .before .before .before .before .before .before .before .before .before .before .before .if3 .left)) _ _ (omega arith) (omega arith) (c .before .before .before .before .before .before .swap-positions .ensures .0) (c .before .before .before .before .before .before .swap-positions .ensures .1) (omega arith)
-
-same-length-3 : tie.Need-same-length-3
-same-length-3 c = search needs
-
-same-length-4 : tie.Need-same-length-4
-same-length-4 c = search needs
-
-returns-6 : tie.Need-returns-6
-returns-6 c =
-    let b = c .before .before .before .before .before .before .before .before .before .before .before .before .before .before .before .before .before .before .before .before .before .before in
-    colour-second (b .args .f .now) (b .args .run) (b .args .k) (b .args .positions .now) (b .args .channels .now) _ _ _ (b .pre .1) (b .pre .0) (def-is (c .before .before .before .before .before .before .before .before .before .before .before .before .before .before .before .before .before .read-u16 .ensures) (c .before .before .before .before .before .before .before .before .before .before .before .before .before .before .before .before .read-u162 .ensures) (c .before .before .before .before .before .before .before .before .before .before .before .before .before .before .before .read-u163 .ensures)) (omega arith) (omega arith) (eqb-false _ _ (c .before .before .before .before .before .before .before .before .before .before .before .if3 .left)) _ _ (omega arith) (omega arith) (c .before .before .before .before .before .before .swap-positions .ensures .0) (c .before .before .before .before .before .before .swap-positions .ensures .1) (omega arith)
+    colour (b .args .f .now) (b .args .run) (b .args .k) (b .args .positions .now) (b .args .channels .now) _ _ _ (b .pre .1) (b .pre .0) (def-is (c .before .before .before .before .before .before .before .before .before .before .before .before .before .before .before .before .before .read-u16 .ensures) (c .before .before .before .before .before .before .before .before .before .before .before .before .before .before .before .before .read-u162 .ensures) (c .before .before .before .before .before .before .before .before .before .before .before .before .before .before .before .read-u163 .ensures)) (omega arith) (omega arith) (eqb-false _ _ (c .before .before .before .before .before .before .before .before .before .before .before .if3 .left)) _ _ (omega arith) (omega arith) (c .before .before .before .before .before .before .swap-positions .ensures .0) (c .before .before .before .before .before .before .swap-positions .ensures .1) (c .before .marked-position .ensures) (c .marked-position2 .ensures)
 
 pub decide-spec : {M : Type 1} → statement M
 decide-spec =
@@ -118,9 +113,8 @@ decide-spec =
     returns-4
     sub-q
     swap-positions-requires
+    marked-position-requires
+    marked-position-requires-2
     same-length
     same-length-2
-    returns-5
-    same-length-3
-    same-length-4
-    returns-6)
+    returns-5)
