@@ -1,10 +1,11 @@
 //! What the crate does not say of a picture, in document 01's words: the numbers 29 and 30, the index beside 25 to 28,
-//! and the lengths that finished records and samples need.
+//! and the lengths that finished records and samples need. For edition 2, which the crate does not have, 26 counts
+//! channel 0 too (request R-2).
 //!
 //! Nothing here asks the crate. It takes the record that the crate's reading gave, so that the lists are the crate's, and
 //! [`Words::fault`] says of 25 to 28 also which applies, so that the crate's own answer can be held against it.
 
-use crate::picture::{Component, FinishingRequest, NO_DATA};
+use crate::picture::{Component, FinishingRequest, MARK, NO_DATA, RECORD};
 use crate::record::{Definition, Mapping, Record};
 
 /// Records of a picture, at most.
@@ -13,14 +14,25 @@ const MOST_RECORDS: u32 = 16384;
 /// Samples of a list, at most.
 const MOST_SAMPLES: u64 = 4294967294;
 
-/// The numbers of one record.
-const RECORD: usize = 13;
-
-/// Where in a record its mark stands.
-const MARK: usize = 12;
-
 /// The crate's mark has no more bits.
 const MOST_OF_A_MARK: u32 = 65535;
+
+/// An edition of the camera rules. The first is the crate's behaviour.
+#[derive(Clone, Copy, Debug, PartialEq, Eq)]
+pub(crate) enum Edition {
+    One,
+    Two,
+}
+
+impl Edition {
+    /// Where there are definitions, every channel from this one up has to have one.
+    fn first_defined(self) -> usize {
+        match self {
+            Edition::One => 1,
+            Edition::Two => 0,
+        }
+    }
+}
 
 /// A picture with the lists that count for it.
 pub(crate) struct Words<'a> {
@@ -51,8 +63,9 @@ impl<'a> Words<'a> {
         &self.components
     }
 
-    pub(crate) fn has_definitions(&self) -> bool {
-        !self.definitions.is_empty()
+    /// None where the ignore flag is set.
+    pub(crate) fn definitions(&self) -> &'a [Definition] {
+        self.definitions
     }
 
     /// 29: a record or plane outside its list, or too many of either.
@@ -69,10 +82,10 @@ impl<'a> Words<'a> {
     }
 
     /// The first number of 25 to 28 that applies, with its index.
-    pub(crate) fn fault(&self) -> Option<(u32, usize)> {
+    pub(crate) fn fault(&self, edition: Edition) -> Option<(u32, usize)> {
         let faults = [
             (25, self.misnamed()),
-            (26, self.undefined()),
+            (26, self.undefined(edition)),
             (27, self.mismapped()),
             (28, self.dataless()),
         ];
@@ -99,8 +112,8 @@ impl<'a> Words<'a> {
         self.definitions.iter().position(beyond)
     }
 
-    /// The lowest channel from 1 up that no definition names.
-    fn undefined(&self) -> Option<usize> {
+    /// The lowest channel that no definition names, from 1 up or, in edition 2, from 0 up.
+    fn undefined(&self, edition: Edition) -> Option<usize> {
         if self.definitions.is_empty() {
             return None;
         }
@@ -110,7 +123,7 @@ impl<'a> Words<'a> {
                 *named = true;
             }
         }
-        (1..self.channels()).find(|channel| !named[*channel])
+        (edition.first_defined()..self.channels()).find(|channel| !named[*channel])
     }
 
     /// The lowest mapping that fails.

@@ -1,10 +1,11 @@
-//! What the port has to answer to a picture: reading the file and finishing it in one step.
+//! What the port has to answer to a picture in edition 1: reading the file and finishing it in one step. Edition 2's
+//! answer is in `edition2.rs`.
 //!
 //! The crate says whether a picture is finished, for which of 25 to 28 it is not, and the planes. What it does not say
 //! is in `expected.rs`. Where both can be asked the same they have to agree, or there is no answer.
 
 use crate::asking::Outcome;
-use crate::expected::Words;
+use crate::expected::{Edition, Words};
 use crate::finishing::{channels, finish, order, Origin};
 use crate::picture::{Component, FinishingRequest, Plane, NO_DATA};
 use crate::reading::{read, read_bare, Reading};
@@ -29,6 +30,8 @@ pub struct Answer {
     pub count: u64,
     pub records: Vec<u32>,
     pub samples: Vec<i32>,
+    /// Of each finished record the channel that it is.
+    pub channels: Vec<usize>,
 }
 
 /// What document 01 asks for, by the crate's answer; or why there is none.
@@ -45,7 +48,7 @@ pub fn answer(request: &FinishingRequest) -> Result<Answer, String> {
     }
 }
 
-fn refused(number: u32, place: u64) -> Answer {
+pub(crate) fn refused(number: u32, place: u64) -> Answer {
     Answer {
         kind: REFUSED,
         number: number.into(),
@@ -59,7 +62,7 @@ fn after_reading(reading: &Reading, request: &FinishingRequest) -> Result<Answer
     if words.outside() {
         return Ok(refused(29, 0));
     }
-    let fault = words.fault();
+    let fault = words.fault(Edition::One);
     let asked = Asked::new(reading, &words, request)?;
     if asked.number != fault.map(|(number, _)| number) {
         let number = asked.number;
@@ -109,7 +112,7 @@ impl Asked {
         request: &FinishingRequest,
     ) -> Result<Answer, String> {
         let planes = self.planes.ok_or("too large to put to the crate")?;
-        if !words.has_definitions() {
+        if words.definitions().is_empty() {
             return packed(&planes, &planes, &straight(planes.len()), words);
         }
         let channels = channels(reading, words.components(), &request.samples)
@@ -175,6 +178,7 @@ fn packed(
         count: planes.len() as u64,
         records,
         samples,
+        channels: order.iter().map(|origin| origin.channel).collect(),
         ..Answer::default()
     })
 }

@@ -12,6 +12,7 @@ mod children;
 mod colouring;
 mod contents;
 mod files;
+mod listings;
 mod mutation;
 mod pictures;
 mod planes;
@@ -25,11 +26,12 @@ use mutation::mutate;
 use random::Random;
 
 pub use arrangements::{
-    definition_lists, definition_orders, large_pictures, mapping_lists, palette_edges,
-    palette_widths, picture_edges,
+    defined, definition_lists, definition_orders, large_pictures, mapping_lists, palette_edges,
+    palette_widths, picture_edges, Definition,
 };
 pub use boxes::{plain, FREE, FTYP, IHDR, JP, JP2C, JP2H};
 pub use contents::MAGIC;
+pub use listings::{definition_listings, LISTED_CHANNELS};
 pub use pictures::Pictures;
 pub use requests::{
     corners, depths, large_writings, mark_patterns, writing_edges, wrong_together,

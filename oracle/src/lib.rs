@@ -10,6 +10,7 @@
 //! - [`write`]: the bytes that the encoder's JP2 part puts before a codestream;
 //! - [`leaves`]: box kinds, box headers and numbers of 1 to 4 bytes, each by itself;
 //! - [`finished`]: what the port has to answer to a picture, by the crate and, where it says nothing, by document 01;
+//! - [`edition2`]: the same in edition 2 of the camera rules, which the crate does not have, by document 02;
 //! - [`written`]: what the port has to answer to a writing, likewise;
 //! - [`bare`]: the same runs with nothing listening and nothing copied out, for taking the time;
 //! - [`generate`]: files to read, pictures to finish and writings, from a seed;
@@ -74,6 +75,7 @@ mod openjpeg;
 // The interface.
 mod asking;
 pub mod bare;
+pub mod edition2;
 mod expected;
 mod expected_writing;
 pub mod finished;
@@ -94,7 +96,9 @@ pub mod written;
 
 pub use asking::{Level, Message, Outcome};
 pub use finishing::{finish, Finishing};
-pub use picture::{Component, FinishingRequest, Plane, Props, Unaskable, NO_DATA};
+pub use picture::{
+    Component, FinishingRequest, Plane, Props, Unaskable, DATA, MARK, NO_DATA, RECORD,
+};
 pub use reading::{read, Reading};
 pub use record::{Definition, Mapping, Palette, Profile, Record};
 pub use reordering::{reorder, Reordering};

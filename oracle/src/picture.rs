@@ -5,6 +5,15 @@ use crate::openjpeg::{opj_image, opj_image_comp};
 /// The first sample's index of a component that has no samples.
 pub const NO_DATA: u32 = 4294967295;
 
+/// The numbers of one record.
+pub const RECORD: usize = 13;
+
+/// Where in a record its first sample's index stands.
+pub const DATA: usize = 11;
+
+/// Where in a record its mark stands.
+pub const MARK: usize = 12;
+
 /// The properties of a component: the fields of `opj_image_comp` but `data`, in field order.
 ///
 /// `alpha` has 16 bits in the crate, so a larger mark cannot be handed to it.

@@ -5,6 +5,7 @@ use std::path::PathBuf;
 pub enum Task {
     Help,
     Rate,
+    Orders,
     Compare {
         seed: u64,
         /// Of generated files; none where reading is not compared.
@@ -29,6 +30,7 @@ pub fn parse(arguments: impl Iterator<Item = String>) -> Result<Task, String> {
         match name.as_str() {
             "--help" | "-h" => return Ok(Task::Help),
             "--rate" => return Ok(Task::Rate),
+            "--orders" => return Ok(Task::Orders),
             "--seed" => seed = Some(number(&value()?)?),
             "--count" => count = Some(number(&value()?)?),
             "--cuts" => cuts = Some(number(&value()?)?),

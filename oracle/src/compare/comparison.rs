@@ -25,6 +25,11 @@ pub trait Tally<C: ?Sized>: Default {
     fn count(&mut self, checked: &C);
 
     fn print(&self);
+
+    /// Cases that have to come up in every run and did not.
+    fn never(&self) -> Vec<&'static str> {
+        Vec::new()
+    }
 }
 
 pub struct Comparison<C: Checked> {
@@ -68,10 +73,15 @@ impl<C: Checked> Comparison<C> {
         }
     }
 
-    /// Prints how often each outcome came up, and whether the two agreed on everything.
+    /// Prints how often each outcome came up, and whether the two agreed on everything. False where they did not, and
+    /// where a case that has to come up did not.
     pub fn end(self) -> bool {
         self.tally.print();
+        let never = self.tally.never();
+        for case in &never {
+            println!("never came up: {case}");
+        }
         println!("{} disagreements", self.disagreements);
-        self.disagreements == 0
+        self.disagreements == 0 && never.is_empty()
     }
 }

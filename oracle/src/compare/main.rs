@@ -1,9 +1,11 @@
 //! Compares the port's reading with the crate's on many files and their beginnings, its finishing on many pictures and
-//! its writing on many requests, and times both.
+//! its writing on many requests, and times both. Edition 2 of finishing, which the crate does not have, is held against
+//! document 02's words.
 
 mod arguments;
 mod comparison;
 mod cuts;
+mod orders;
 mod ours;
 mod pictures;
 mod port;
@@ -25,6 +27,7 @@ fn main() -> ExitCode {
             Ok(true)
         }
         Ok(Task::Rate) => Ok(rate::rate()),
+        Ok(Task::Orders) => Ok(orders::compare()),
         Ok(Task::Compare {
             seed,
             count,

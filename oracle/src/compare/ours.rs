@@ -105,30 +105,36 @@ fn lend(
     }
 }
 
-/// Reads a picture's file and finishes the picture with a list of `length` numbers for the answer.
-pub fn finish(picture: &FinishingRequest, length: usize) -> Finished {
+/// Reads a picture's file and finishes the picture with a list of `length` numbers for the answer, in the edition that
+/// the flag picks.
+pub fn finish(picture: &FinishingRequest, edition2: u32, length: usize) -> Finished {
     lend(picture, length, |records, samples, answer| {
-        port::finish(picture, records, samples, answer)
+        port::finish(picture, edition2, records, samples, answer)
     })
 }
 
 /// Reads a picture's file, and finishes the picture in a second step with the numbers of the reading.
-fn finish_in_two_steps(picture: &FinishingRequest, length: usize) -> Finished {
+fn finish_in_two_steps(picture: &FinishingRequest, edition2: u32, length: usize) -> Finished {
     let mut reading = [UNWRITTEN; COUNT];
     port::read(&picture.file, &mut reading);
     lend(picture, length, |records, samples, answer| {
-        port::finish_reading(picture, &reading, records, samples, answer)
+        port::finish_reading(picture, edition2, &reading, records, samples, answer)
     })
 }
 
 /// Whether the two steps come to what one step came to, in every number.
-pub fn same_in_two_steps(picture: &FinishingRequest, length: usize, once: &Finished) -> bool {
-    finish_in_two_steps(picture, length) == *once
+pub fn same_in_two_steps(
+    picture: &FinishingRequest,
+    edition2: u32,
+    length: usize,
+    once: &Finished,
+) -> bool {
+    finish_in_two_steps(picture, edition2, length) == *once
 }
 
 /// Whether finishing writes nothing at all where its list for the answer is as short as this, and says so.
-pub fn minds_its_answer(picture: &FinishingRequest, length: usize) -> bool {
-    let finished = finish(picture, length);
+pub fn minds_its_answer(picture: &FinishingRequest, edition2: u32, length: usize) -> bool {
+    let finished = finish(picture, edition2, length);
     let mut records = finished.records.iter().enumerate();
     let mut samples = finished.samples.iter().enumerate();
     finished.returned == NO_ROOM

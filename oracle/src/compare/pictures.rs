@@ -1,6 +1,7 @@
-//! Compares the port's finishing with the crate's on many pictures.
+//! Compares the port's finishing with the crate's on many pictures, and in edition 2 with document 02's words.
 
 mod check;
+mod edition;
 mod tally;
 
 use crate::comparison::Comparison;
@@ -10,7 +11,10 @@ use oracle::generate::{
     palette_widths, picture_edges, Pictures,
 };
 
-/// Whether the two agree on all pictures.
+/// So many numbers of a list are printed.
+const PRINTED: usize = 200;
+
+/// Whether the two agree on all pictures, in both editions.
 pub fn compare(seed: u64, count: u64) -> bool {
     let mut comparison = Comparison::<CheckedPicture>::new();
     for channels in 1..=4 {
@@ -27,4 +31,14 @@ pub fn compare(seed: u64, count: u64) -> bool {
     let name = format!("generated pictures of seed {seed}");
     comparison.all(&name, (0..count).map(|number| pictures.picture(number)));
     comparison.end()
+}
+
+fn print_list<T: std::fmt::Debug>(name: &str, list: &[T]) {
+    let shown = &list[..list.len().min(PRINTED)];
+    let more = if list.len() > PRINTED {
+        " and more"
+    } else {
+        ""
+    };
+    println!("  {name}  {shown:?}{more}");
 }

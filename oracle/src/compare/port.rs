@@ -11,6 +11,12 @@ mod exports;
 
 use exports::{cuzhantir_finish, cuzhantir_picture, cuzhantir_read};
 
+/// The flag for edition 1 of the camera rules.
+pub const EDITION_1: u32 = 0;
+
+/// A flag for edition 2; so is every other number but 0.
+pub const EDITION_2: u32 = 1;
+
 /// Reads a file and writes the numbers of the answer, in the order of `oracle::numbers`. Answers the number of a refusal,
 /// else 0; and 30 where `out` is too short for the numbers.
 pub fn read(file: &[u8], out: &mut [u64]) -> u32 {
@@ -18,11 +24,12 @@ pub fn read(file: &[u8], out: &mut [u64]) -> u32 {
     unsafe { cuzhantir_read(file.as_ptr(), file.len(), out.as_mut_ptr(), out.len()) }
 }
 
-/// Reads a picture's file and finishes the picture. Writes kind, number, place and number of planes to `answer`,
-/// finished records to `records` and finished samples to `planes`; their lengths are the room, not the picture's.
-/// Answers the number of a refusal, else 0; and 30 where `answer` is too short.
+/// Reads a picture's file and finishes the picture, in the edition that the flag `edition2` picks. Writes kind, number,
+/// place and number of planes to `answer`, finished records to `records` and finished samples to `planes`; their lengths
+/// are the room, not the picture's. Answers the number of a refusal, else 0; and 30 where `answer` is too short.
 pub fn finish(
     picture: &FinishingRequest,
+    edition2: u32,
     records: &mut [u32],
     planes: &mut [i32],
     answer: &mut [u64],
@@ -33,6 +40,7 @@ pub fn finish(
             picture.file.as_ptr(),
             picture.file.len(),
             picture.ignore,
+            edition2,
             picture.components.as_ptr(),
             picture.components.len(),
             picture.count,
@@ -51,6 +59,7 @@ pub fn finish(
 /// The same with the numbers that `read` gave for the file.
 pub fn finish_reading(
     picture: &FinishingRequest,
+    edition2: u32,
     reading: &[u64],
     records: &mut [u32],
     planes: &mut [i32],
@@ -64,6 +73,7 @@ pub fn finish_reading(
             reading.as_ptr(),
             reading.len(),
             picture.ignore,
+            edition2,
             picture.components.as_ptr(),
             picture.components.len(),
             picture.count,

@@ -7,7 +7,7 @@ use super::systematic::picture;
 use crate::picture::{Component, FinishingRequest, Props, NO_DATA};
 
 /// A definition: channel, typ, asoc.
-type Definition = [u16; 3];
+pub type Definition = [u16; 3];
 
 /// A mapping: component, type, column.
 type Mapping = (u16, u8, u8);
@@ -53,7 +53,8 @@ fn fit(request: &mut FinishingRequest) {
     (request.records_room, request.samples_room) = fitting(request);
 }
 
-fn defined(channels: usize, definitions: &[Definition]) -> FinishingRequest {
+/// A picture of as many components, no two alike, with these definitions and room enough.
+pub fn defined(channels: usize, definitions: &[Definition]) -> FinishingRequest {
     let content = cdef(definitions.len() as u16, definitions);
     request(channels, &[plain(CDEF, &content)])
 }
@@ -132,7 +133,7 @@ const CLASHING: [[Definition; 4]; 18] = [
 ];
 
 /// The list in every order, none twice.
-fn orders<T: Copy + Ord>(list: &[T]) -> Vec<Vec<T>> {
+pub(super) fn orders<T: Copy + Ord>(list: &[T]) -> Vec<Vec<T>> {
     if list.is_empty() {
         return vec![Vec::new()];
     }
