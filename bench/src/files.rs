@@ -107,3 +107,9 @@ pub fn reversed(channels: u16) -> Vec<[u16; 3]> {
     let definition = |channel| [channel, 0, channels - channel];
     (0..channels).map(definition).collect()
 }
+
+/// Channel 0 is an opacity and stands first, the others are the colours in their order.
+pub fn opacity_first(channels: u16) -> Vec<[u16; 3]> {
+    let colours = (1..channels).map(|channel| [channel, 0, channel]);
+    [[0, 1, 0]].into_iter().chain(colours).collect()
+}

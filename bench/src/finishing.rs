@@ -2,11 +2,12 @@
 
 use crate::clock::seconds;
 use crate::openjpeg::{self, Library};
-use crate::port;
+use crate::port::{self, EDITION_1, EDITION_2};
 use crate::table::Run;
 use crate::Disagreement;
 use oracle::bare::{self, Image};
-use oracle::{Component, FinishingRequest, Plane, NO_DATA};
+use oracle::finished::{self, FINISHED};
+use oracle::{edition2, Component, FinishingRequest, Plane, NO_DATA};
 use std::hint::black_box;
 
 /// What is handed in: to the port and to OpenJPEG as numbers, to the crate as components.
@@ -61,11 +62,17 @@ impl Picture {
         }
     }
 
-    /// The port's four numbers.
+    /// The port's four numbers, in edition 1, which is what the others do.
     pub fn ours(&self, lists: &mut Lists) -> [u64; 4] {
+        self.ours_in(EDITION_1, lists)
+    }
+
+    /// The same in the edition that the flag picks.
+    pub fn ours_in(&self, edition2: u32, lists: &mut Lists) -> [u64; 4] {
         let mut answer = [1; 4];
         let Lists { records, samples } = lists;
-        port::finish(black_box(&self.request), records, samples, &mut answer);
+        let request = black_box(&self.request);
+        port::finish(request, black_box(edition2), records, samples, &mut answer);
         answer
     }
 
@@ -107,6 +114,23 @@ impl Picture {
             return Ok(lists);
         }
         Err(format!("{name}: the answers differ"))
+    }
+
+    /// The port's lists, after it has given in both editions what is asked for.
+    pub fn finished_in_both(&self, name: &str) -> Result<Lists, Disagreement> {
+        let first = finished::answer(&self.request)?;
+        let second = edition2::answer(&self.request, &first)?.answer;
+        let mut lists = Lists::written(self);
+        for (edition2, asked) in [(EDITION_1, first), (EDITION_2, second)] {
+            let answer = self.ours_in(edition2, &mut lists);
+            if answer != [FINISHED, 0, 0, asked.count]
+                || lists.records != asked.records
+                || lists.samples != asked.samples
+            {
+                return Err(format!("{name}: the flag {edition2} gives another answer"));
+            }
+        }
+        Ok(lists)
     }
 
     fn crate_gives(&self, lists: &Lists) -> bool {

@@ -38,46 +38,69 @@ const HEADS: [&str; 9] = [
     "ours/copy",
 ];
 
-/// The table, line by line as the times come in.
-pub struct Table {
-    /// How wide each column is, at least.
-    widths: [usize; HEADS.len()],
-    /// Whether what the words mean is said below.
-    explained: bool,
+/// How the tables are printed.
+#[derive(Clone, Copy)]
+pub enum Form {
+    /// With columns of one width, and what the words mean below.
+    Terminal,
+    /// As README.md has them, and nothing else.
+    Readme,
 }
 
-impl Table {
-    pub fn for_a_terminal() -> Self {
-        println!(
-            "Microseconds of the processor's time, the fastest of up to {ROUNDS} rounds, on {}.",
-            machine::kind()
-        );
-        println!();
-        Table::begin([50, 7, 9, 9, 9, 9, 10, 13, 9], true)
+/// The columns of a table. The first ones hold words.
+struct Columns<const N: usize> {
+    words: usize,
+    /// How wide each one is, at least.
+    widths: [usize; N],
+}
+
+impl<const N: usize> Columns<N> {
+    /// The lines above the numbers.
+    fn head(&self, names: [&str; N]) {
+        self.line(names.map(str::to_owned));
+        let rule = |column| if column < self.words { "---" } else { "---:" };
+        let rules: Vec<_> = (0..N).map(rule).collect();
+        println!("|{}|", rules.join("|"));
     }
 
-    pub fn for_the_readme() -> Self {
-        println!("{}. OpenJPEG: {ORIGIN}. Microseconds:", machine::kind());
-        println!();
-        Table::begin([0; HEADS.len()], false)
-    }
-
-    fn begin(widths: [usize; HEADS.len()], explained: bool) -> Self {
-        let table = Table { widths, explained };
-        table.line(HEADS.map(str::to_owned));
-        println!("|---|---|---:|---:|---:|---:|---:|---:|---:|");
-        table
-    }
-
-    /// The first two columns stand to the left, the numbers to the right.
-    fn line(&self, cells: [String; HEADS.len()]) {
+    /// Words stand to the left, numbers to the right.
+    fn line(&self, cells: [String; N]) {
         for (column, (cell, width)) in cells.iter().zip(self.widths).enumerate() {
-            match column {
-                0 | 1 => print!("| {cell:<width$} "),
-                _ => print!("| {cell:>width$} "),
+            if column < self.words {
+                print!("| {cell:<width$} ");
+            } else {
+                print!("| {cell:>width$} ");
             }
         }
         println!("|");
+    }
+}
+
+/// The table, line by line as the times come in.
+pub struct Table {
+    form: Form,
+    columns: Columns<{ HEADS.len() }>,
+}
+
+impl Table {
+    pub fn new(form: Form) -> Self {
+        let widths = match form {
+            Form::Terminal => {
+                println!(
+                    "Microseconds of the processor's time, the fastest of up to {ROUNDS} rounds, on {}.",
+                    machine::kind()
+                );
+                [50, 7, 9, 9, 9, 9, 10, 13, 9]
+            }
+            Form::Readme => {
+                println!("{}. OpenJPEG: {ORIGIN}. Microseconds:", machine::kind());
+                [0; HEADS.len()]
+            }
+        };
+        println!();
+        let columns = Columns { words: 2, widths };
+        columns.head(HEADS);
+        Table { form, columns }
     }
 
     /// Times a case and prints its line.
@@ -91,7 +114,7 @@ impl Table {
             Some(case.copy),
         ]);
         let theirs = if taken_off { whole - making } else { whole };
-        self.line([
+        self.columns.line([
             case.name,
             case.buffers.to_owned(),
             number(1e6 * ours),
@@ -105,7 +128,7 @@ impl Table {
     }
 
     pub fn end(&self) {
-        if self.explained {
+        if let Form::Terminal = self.form {
             println!();
             println!("OpenJPEG: {ORIGIN}.");
             for line in NOTES {
@@ -115,11 +138,43 @@ impl Table {
     }
 }
 
+const EDITION_HEADS: [&str; 4] = ["case", "edition 1", "edition 2", "edition 2/edition 1"];
+
+/// Ours alone, in both editions: the crate and OpenJPEG have no edition 2.
+pub struct EditionTable {
+    columns: Columns<{ EDITION_HEADS.len() }>,
+}
+
+impl EditionTable {
+    pub fn new(form: Form) -> Self {
+        let widths = match form {
+            Form::Terminal => [50, 9, 9, 19],
+            Form::Readme => [0; EDITION_HEADS.len()],
+        };
+        println!("Ours in both editions, microseconds:");
+        println!();
+        let columns = Columns { words: 1, widths };
+        columns.head(EDITION_HEADS);
+        EditionTable { columns }
+    }
+
+    /// Times both and prints their line.
+    pub fn time(&self, name: String, first: Run, second: Run) {
+        let [first, second] = fastest([Some(first), Some(second)]);
+        self.columns.line([
+            name,
+            number(1e6 * first),
+            number(1e6 * second),
+            number(second / first),
+        ]);
+    }
+}
+
 /// The fewest seconds of each. They take turns forth and back, so that each of the two that write the same destination
 /// has runs right after its own.
-fn fastest(mut runs: [Option<Run>; 5]) -> [f64; 5] {
-    let mut best = [f64::INFINITY; 5];
-    let mut order = [0, 1, 2, 3, 4];
+fn fastest<const N: usize>(mut runs: [Option<Run>; N]) -> [f64; N] {
+    let mut best = [f64::INFINITY; N];
+    let mut order: [usize; N] = std::array::from_fn(|turn| turn);
     let start = Instant::now();
     for round in 0..ROUNDS {
         if round > 1 && start.elapsed() > LONG {
