@@ -124,11 +124,17 @@ pub extern "C" fn cuzhantir_finish(
     if answer.len() < ANSWER_LENGTH {
         return TOO_SHORT;
     }
-    let s = Settings {
-        ignore: ignore,
-        edition2: edition2,
-    };
-    let r = readings::finish_reading(file, reading, s, comps, count, samples, records, planes);
+    let r = readings::finish_reading(
+        file,
+        reading,
+        ignore,
+        edition2,
+        comps,
+        count,
+        samples,
+        records,
+        planes,
+    );
     answers::give_finished(r, answer)
 }
 

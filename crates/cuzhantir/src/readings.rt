@@ -1,6 +1,7 @@
 // Finishing a picture whose file was read before: the caller gives the reading as numbers and is not trusted.
 ghost use mathlib.Core.Path.{_≡_};
 ghost use Rattle.box_number.specs.Table.{holds};
+ghost use Rattle.picture_rules.specs.Handed.{settings};
 ghost use Rattle.picture_rules.specs.Whole.{handed};
 ghost use Rattle.export_rules.specs.FinishReading.{misnumbered, noReading, recordOf};
 ghost use Rattle.export_rules.specs.TwoSteps.{ReadingFinished};
@@ -109,14 +110,15 @@ fn record_of(xs: &[u64]) -> Jp2
 pub fn finish_reading(
     file: &[u8],
     reading: &[u64],
-    s: Settings,
+    ignore: u32,
+    edition2: u32,
     comps: &[u32],
     count: u32,
     samples: &[i32],
     records: &mut [u32],
     planes: &mut [i32],
 ) -> Finished
-    ensures { λ r. ⌜ ReadingFinished (handed (now (file .entry)) s (now (comps .entry)) count (now (samples .entry)) (now (records .entry)) (now (planes .entry))) (now (reading .entry)) r (now (records .entry)) (now (records .exit)) (now (planes .entry)) (now (planes .exit)) ⌝ }
+    ensures { λ r. ⌜ ReadingFinished (handed (now (file .entry)) (settings ignore edition2) (now (comps .entry)) count (now (samples .entry)) (now (records .entry)) (now (planes .entry))) (now (reading .entry)) r (now (records .entry)) (now (records .exit)) (now (planes .entry)) (now (planes .exit)) ⌝ }
 {
     if no_reading(reading) {
         return Finished::Refused(29, 0);
@@ -125,6 +127,10 @@ pub fn finish_reading(
         return Finished::Refused(reading[VALUE] as u32, reading[PLACE]);
     }
     let m = record_of(reading);
+    let s = Settings {
+        ignore: ignore,
+        edition2: edition2,
+    };
     picture_finish::opj_jp2_apply_color_postprocessing(
         file,
         m,

@@ -24,7 +24,7 @@ use Rattle.picture_rules.specs.Finish.{Finishing, finished, declined, co
 use Rattle.picture_rules.specs.OrderFreedom.{SamePlanes}
 use Rattle.picture_rules.specs.Editions.{withEdition, FirstEdition, SecondEdition}
 use Rattle.picture_rules.proofs.Flats.{flat-at}
-use Rattle.picture_rules.proofs.Rules.{same-places}
+use Rattle.picture_rules.proofs.Rules.{order-free, same-places}
 use Rattle.picture_rules.proofs.Checks.{Checked, Passed, passed, passes, made}
 
 -- tests that hold together are alike
@@ -38,7 +38,8 @@ first-edition =
     record {
       defines = λ n d a. refl;
       counts = λ f l c. same-test (undefined 0 f l c) (l .count ≠? 0 and 0 <? c and lowest (λ j. Cn f l j =? c) (l .count) =? l .count) (λ h. (h .0, (omega (arith, h .1 .0), h .1 .1))) (λ h. (h .0, (omega (arith, h .1 .0), h .1 .1)));
-      leaves-marks = refl;
+      order-free = order-free 0;
+      same-planes = λ planes others same. same .records;
     }
 
 -- any flag but 0 is as good as 1

@@ -8,7 +8,6 @@ use native.Mathlib.Omega.{arith}
 use lib.IntN.{ℤ, pos}
 use lib.ListN.{length, drop, List·getD-append}
 use Rattle.read_record.specs.declared.Jp2.{Jp2}
-use Rattle.box_number.specs.Table.{table}
 use Rattle.box_number.proofs.Rows.{row, each}
 use Rattle.picture_rules.specs.Edition.{orderFreeNumbers}
 use Rattle.picture_rules.specs.Image.{Image, image, listed, component, width, height, first, mark, noData, sampleAt}
@@ -54,12 +53,7 @@ tells-count free h g m k planes others o y z =
     let w = subst (λ k. Accepted (withFile g h) k others) (only (x .reading) (z .reading)) z in
     ap (λ (p : Image). p .count) (same-picture (x .finishing) (w .finishing)) ∙ e
 
--- every record of the same planes is the same, in edition 1 its mark aside
-pub tells-record : (planes others : Image) → SamePlanes 0 planes others → (p k : ℕ) → p < planes .count → k < 12 → component others p k ≡ component planes p k
-unfolding orderFreeNumbers table
-tells-record planes others same p k l b = same .records p k l b
-
--- in edition 2 its mark too
+-- in edition 2 every record of the same planes has the same mark
 pub tells-mark : (edition2 : ℕ) (planes others : Image) → (edition2 ≡ 0 → ⊥) → SamePlanes edition2 planes others → (p : ℕ) → p < planes .count → mark others p ≡ mark planes p
 unfolding orderFreeNumbers
 tells-mark edition2 planes others second same p l = same .records p 12 l (subst (λ many. 12 < many) (row 1 _ (second, tt) refl) (omega arith))

@@ -5,6 +5,7 @@ use mathlib.Core.Path.{refl, sym, ap, _∙_}
 use mathlib.Core.Bool.{true, false}
 use Rattle.box_number.proofs.Rows.{said}
 use Rattle.picture_rules.specs.Finish.{finish}
+use Rattle.picture_rules.specs.Handed.{settings}
 use Rattle.picture_rules.specs.Whole.{handed}
 use Rattle.export_rules.specs.FinishReading.{noReading}
 use Rattle.picture_rules.proofs.Wholes.{declined-done}
@@ -21,26 +22,26 @@ no-reading-requires c κs = tt
 returns : tie.Need-returns
 returns c =
     let a = c .before .before .before .before .before .before .args in
-    let h = handed (a .file .now) (a .s) (a .comps .now) (a .count) (a .samples .now) (a .records .now) (a .planes .now) in
+    let h = handed (a .file .now) (settings (a .ignore) (a .edition2)) (a .comps .now) (a .count) (a .samples .now) (a .records .now) (a .planes .now) in
     let is = none h (a .reading .now) (said true (noReading (a .reading .now)) (sym (c .before .no-reading .ensures) ∙ c .if1 .taken)) in
     finishes h (a .reading .now) _ (a .records .now) (a .planes .now) (bytes (a .file .now) (c .before .before .before .before .before .shared-slice-known .given)) is (declined-done _ (a .records .now) (a .planes .now) refl)
 
 shared-slice-read-if2 : tie.Need-shared-slice-read-if2
 shared-slice-read-if2 c = let a = c .before .before .before .before .before .before .before .args in let t = taken (a .reading .now) (said false (noReading (a .reading .now)) (sym (c .before .before .no-reading .ensures) ∙ c .before .if1 .left)) in omega (arith, t .long)
 
-shared-slice-read-t15 : tie.Need-shared-slice-read-t15
-shared-slice-read-t15 c = let a = c .before .before .before .before .before .before .before .before .before .args in let t = taken (a .reading .now) (said false (noReading (a .reading .now)) (sym (c .before .before .before .before .no-reading .ensures) ∙ c .before .before .before .if1 .left)) in omega (arith, t .long)
+shared-slice-read-t17 : tie.Need-shared-slice-read-t17
+shared-slice-read-t17 c = let a = c .before .before .before .before .before .before .before .before .before .args in let t = taken (a .reading .now) (said false (noReading (a .reading .now)) (sym (c .before .before .before .before .no-reading .ensures) ∙ c .before .before .before .if1 .left)) in omega (arith, t .long)
 
-cast-t16 : tie.Need-cast-t16
-cast-t16 c = let a = c .before .before .before .before .before .before .before .before .before .args in let f = said false (noReading (a .reading .now)) (sym (c .before .before .before .before .no-reading .ensures) ∙ c .before .before .before .if1 .left) in omega (arith, (f .1 .1 .0 (c .before .if2 .taken)) .1)
+cast-t18 : tie.Need-cast-t18
+cast-t18 c = let a = c .before .before .before .before .before .before .before .before .before .args in let f = said false (noReading (a .reading .now)) (sym (c .before .before .before .before .no-reading .ensures) ∙ c .before .before .before .if1 .left) in omega (arith, (f .1 .1 .0 (c .before .if2 .taken)) .1)
 
-shared-slice-read-t18 : tie.Need-shared-slice-read-t18
-shared-slice-read-t18 c = let a = c .before .before .before .before .before .before .before .before .before .before .args in let t = taken (a .reading .now) (said false (noReading (a .reading .now)) (sym (c .before .before .before .before .before .no-reading .ensures) ∙ c .before .before .before .before .if1 .left)) in omega (arith, t .long)
+shared-slice-read-t20 : tie.Need-shared-slice-read-t20
+shared-slice-read-t20 c = let a = c .before .before .before .before .before .before .before .before .before .before .args in let t = taken (a .reading .now) (said false (noReading (a .reading .now)) (sym (c .before .before .before .before .before .no-reading .ensures) ∙ c .before .before .before .before .if1 .left)) in omega (arith, t .long)
 
 returns-2 : tie.Need-returns-2
 returns-2 c =
     let a = c .before .before .before .before .before .before .before .before .before .before .args in
-    let h = handed (a .file .now) (a .s) (a .comps .now) (a .count) (a .samples .now) (a .records .now) (a .planes .now) in
+    let h = handed (a .file .now) (settings (a .ignore) (a .edition2)) (a .comps .now) (a .count) (a .samples .now) (a .records .now) (a .planes .now) in
     let f = said false (noReading (a .reading .now)) (sym (c .before .before .before .before .before .no-reading .ensures) ∙ c .before .before .before .before .if1 .left) in
     let is = refused h (a .reading .now) f (c .before .before .if2 .taken) in
     finishes h (a .reading .now) _ (a .records .now) (a .planes .now) (bytes (a .file .now) (c .before .before .before .before .before .before .before .before .before .shared-slice-known .given)) is (declined-done _ (a .records .now) (a .planes .now) refl)
@@ -60,7 +61,7 @@ same-length-2 c = search needs
 returns-3 : tie.Need-returns-3
 returns-3 c =
     let a = c .before .before .before .before .before .before .before .before .before .before .before .before .before .before .before .args in
-    let h = handed (a .file .now) (a .s) (a .comps .now) (a .count) (a .samples .now) (a .records .now) (a .planes .now) in
+    let h = handed (a .file .now) (settings (a .ignore) (a .edition2)) (a .comps .now) (a .count) (a .samples .now) (a .records .now) (a .planes .now) in
     let f = said false (noReading (a .reading .now)) (sym (c .before .before .before .before .before .before .before .before .before .before .no-reading .ensures) ∙ c .before .before .before .before .before .before .before .before .before .if1 .left) in
     let e = c .before .before .before .opj-jp2-apply-color-postprocessing .ensures in
     let is = on h (a .reading .now) f (c .before .before .before .before .before .before .before .if2 .left) ∙ ap (finish h) (sym (c .before .before .before .before .before .before .record-of .ensures)) in
@@ -73,9 +74,9 @@ finish-reading-spec =
     no-reading-requires
     returns
     shared-slice-read-if2
-    shared-slice-read-t15
-    cast-t16
-    shared-slice-read-t18
+    shared-slice-read-t17
+    cast-t18
+    shared-slice-read-t20
     returns-2
     record-of-requires
     opj-jp2-apply-color-postprocessing-requires
