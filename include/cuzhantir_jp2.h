@@ -18,6 +18,12 @@
  *   needed length  how many elements the list at fault would have to have
  *   0              where none is named
  *
+ * Editions. Finishing goes by one of two editions of the rules, and the parameter `edition2` says which: 0 is edition 1, any
+ * other number is edition 2 (enum cuzhantir_edition). They differ in two things. In edition 2 a finished plane has the mark
+ * that its own channel's definition gives, and where there are definitions channel 0 has to be defined too
+ * (CUZHANTIR_CHANNEL_UNDEFINED). All else is the same: which channel is on which plane, the other 12 numbers of each record,
+ * the samples, and every other refusal. Reading and writing have no editions.
+ *
  * Hand in the whole file. Boxes may come in almost any order and behind large ones, and the file's length is part of what
  * is read: the first part of a file can be answered differently, also with 0. A file that ends before a codestream, such as
  * an empty one, is not refused. Reading returns 0 for it and says CUZHANTIR_READING_ENDED, which a caller has to test.
@@ -96,7 +102,7 @@ enum cuzhantir_number {
   CUZHANTIR_CDEF_TOO_SHORT = 23,     /* cdef: under 2 bytes, or definitions cut short */
   CUZHANTIR_CDEF_EMPTY = 24,         /* cdef: a count of 0 */
   CUZHANTIR_DEFINITION_OUTSIDE = 25, /* a definition names a channel or a colour that is not there; its index */
-  CUZHANTIR_CHANNEL_UNDEFINED = 26,  /* a channel from 1 up has no definition; the channel */
+  CUZHANTIR_CHANNEL_UNDEFINED = 26,  /* no definition of a channel, from 1 up in edition 1, from 0 up in 2; the channel */
   CUZHANTIR_MAPPING_WRONG = 27,      /* no such component, or neither direct use nor its own column; the mapping's index */
   CUZHANTIR_COMPONENT_WITHOUT_SAMPLES = 28, /* the palette maps a component that has no samples; the mapping's index */
   CUZHANTIR_OUTSIDE_LIST = 29,              /* something lies outside its list or file, see above; 0 */
@@ -186,8 +192,10 @@ enum cuzhantir_answer {
  * The numbers of a component, and of a finished plane: the fields of opj_image_comp in their order. The sample at row y,
  * column x is at data + y * w + x of the list of samples.
  *
- * The mark. For writing, a component with any mark but 0 is the opacity of the picture (see cuzhantir_write). Of a finished
- * plane the mark does not say whether it is opacity: go by the definitions, as cuzhantir_finish describes.
+ * The mark. For writing, a component with any mark but 0 is the opacity of the picture (see cuzhantir_write). Of a plane that
+ * was finished by edition 2 with the file's definitions it is the typ of its channel's last definition: 1 or 2 is opacity. Of
+ * one that was finished by edition 1 it does not say whether the plane is opacity: go by the definitions, as cuzhantir_finish
+ * describes. Without definitions, or where they are ignored, a plane has the mark of its component.
  */
 enum cuzhantir_component {
   CUZHANTIR_COMPONENT_DX = 0,
@@ -204,6 +212,14 @@ enum cuzhantir_component {
   CUZHANTIR_COMPONENT_DATA = 11,  /* the first sample's index, or CUZHANTIR_NO_SAMPLES */
   CUZHANTIR_COMPONENT_ALPHA = 12, /* the mark, see above */
   CUZHANTIR_COMPONENT_LENGTH = 13 /* how many numbers a component has */
+};
+
+/*
+ * The editions of the rules by which a picture is finished. Any number but 0 picks edition 2; no number is refused.
+ */
+enum cuzhantir_edition {
+  CUZHANTIR_EDITION_1 = 0, /* the crate's behaviour, and that of installed cameras */
+  CUZHANTIR_EDITION_2 = 1  /* each plane has its own channel's mark, and channel 0 has to be defined */
 };
 
 /* Data of a component that has no samples. */
@@ -243,9 +259,14 @@ uint32_t cuzhantir_read(const uint8_t *file, size_t file_len, uint64_t *reading,
  * Which plane is which. The channel that a definition calls colour k (typ 0, asoc k) is on plane k - 1, counted from 0,
  * where the definitions name no channel and no colour twice. Without definitions channel c is on plane c. Samples are packed
  * in the order of the channels and only records are moved, so a plane's data tells its channel, and the channel's definition
- * tells what the plane is (cuzhantir_definition_at; include/test/show_order.c does so). Do not go by the marks of finished
- * planes: each definition sets a mark, and a later one may set it again after the record has moved. With the definitions
- * (0, 1, 0), (1, 0, 1), opacity and then a colour, both planes have mark 0; in the other order the second has 1.
+ * tells what the plane is (cuzhantir_definition_at; include/test/show_order.c does so). All this is the same in both editions.
+ *
+ * The marks of finished planes, where there are definitions. In edition 2 a plane's mark is the typ of its own channel's
+ * definition, of the last one where there are several. So it says what the plane is, and where the definitions name no channel
+ * and no colour twice it does not depend on their order. In edition 1 do not go by the marks: each definition sets a mark, and
+ * a later one may set it again after the record has moved. With the definitions (0, 1, 0), (1, 0, 1), opacity and then a colour,
+ * channel 1 is on plane 0 and channel 0 on plane 1. Their marks are 0 and 1 in edition 2, and 0 and 0 in edition 1; with the two
+ * definitions in the other order they are 0 and 1 in both.
  *
  * file, reading   the file, and what cuzhantir_read gave for it, of which palette, mappings and definitions are looked at.
  *                 A refused reading is answered with its own number and place. A list that is no reading (shorter than 44
@@ -253,7 +274,9 @@ uint32_t cuzhantir_read(const uint8_t *file, size_t file_len, uint64_t *reading,
  *                 reading whose lists do not lie in the file, are CUZHANTIR_OUTSIDE_LIST. Nothing tests that the reading
  *                 is of this file. One that ended before a codestream is taken too, with what was read: with that of an
  *                 empty file the components are copied
- * ignore          not 0: palette, mappings and definitions count for nothing, and the components are copied
+ * ignore          not 0: palette, mappings and definitions count for nothing, and the components are copied, marks included;
+ *                 then both editions give the same
+ * edition2        enum cuzhantir_edition: 0 for edition 1, any other number for edition 2
  * comps, count    13 numbers for each of `count` components (enum cuzhantir_component); further numbers are not looked at
  * samples         the samples of all components
  * records         gets 13 numbers a plane, in plane order
@@ -262,7 +285,7 @@ uint32_t cuzhantir_read(const uint8_t *file, size_t file_len, uint64_t *reading,
  *                 CUZHANTIR_DESTINATION_TOO_SHORT
  */
 uint32_t cuzhantir_finish(const uint8_t *file, size_t file_len, const uint64_t *reading, size_t reading_len,
-                          uint32_t ignore, const uint32_t *comps, size_t comps_len, uint32_t count,
+                          uint32_t ignore, uint32_t edition2, const uint32_t *comps, size_t comps_len, uint32_t count,
                           const int32_t *samples, size_t samples_len, uint32_t *records, size_t records_len,
                           int32_t *planes, size_t planes_len, uint64_t *answer, size_t answer_len);
 
@@ -270,10 +293,10 @@ uint32_t cuzhantir_finish(const uint8_t *file, size_t file_len, const uint64_t *
  * Reads a file and finishes its picture: cuzhantir_read and cuzhantir_finish in one step, with the same answer. A file that
  * ends before a codestream is finished with what was read of it, and 0 is returned; cuzhantir_read tells the two apart.
  */
-uint32_t cuzhantir_picture(const uint8_t *file, size_t file_len, uint32_t ignore, const uint32_t *comps,
-                           size_t comps_len, uint32_t count, const int32_t *samples, size_t samples_len,
-                           uint32_t *records, size_t records_len, int32_t *planes, size_t planes_len, uint64_t *answer,
-                           size_t answer_len);
+uint32_t cuzhantir_picture(const uint8_t *file, size_t file_len, uint32_t ignore, uint32_t edition2,
+                           const uint32_t *comps, size_t comps_len, uint32_t count, const int32_t *samples,
+                           size_t samples_len, uint32_t *records, size_t records_len, int32_t *planes,
+                           size_t planes_len, uint64_t *answer, size_t answer_len);
 
 /*
  * Writes signature, file type, jp2h (ihdr; bpcc where precisions differ; colr; cdef, see below) and the header of the

@@ -1,5 +1,5 @@
 /*
- * Tries the four entries by the names of the header. C11, and C++17 from the same source.
+ * Tries the four entries by the names of the header, finishing in both editions. C11, and C++17 from the same source.
  *
  *   entries SAMPLES        SAMPLES is the folder with the sample pictures
  *
@@ -203,8 +203,8 @@ static void turned_file(struct bytes *b) {
   end_file(b, jp2h);
 }
 
-/* One component under a palette of three rows and two columns of 8 bits. */
-static void palette_file(struct bytes *b) {
+/* One component under a palette of three rows and two columns of 8 bits, with definitions where there are any. */
+static void palette_file(struct bytes *b, const uint32_t *definitions, uint32_t defined) {
   size_t jp2h = begin_file(b);
   size_t box;
   put_ihdr(b, 1, 2, 1);
@@ -219,8 +219,14 @@ static void palette_file(struct bytes *b) {
   put(b, 0x00000100u, 4);
   put(b, 0x00000101u, 4);
   close_box(b, box);
+  if (defined > 0) {
+    put_cdef(b, definitions, defined);
+  }
   end_file(b, jp2h);
 }
+
+/* Where that file has the column of its second mapping. */
+#define PALETTE_SECOND_COLUMN 96
 
 /* A component of a height and a width, 8 bits, with its first sample at an index. */
 static void component(uint32_t *numbers, uint32_t height, uint32_t width, uint32_t data) {
@@ -241,6 +247,7 @@ struct picture {
   uint32_t count;
   struct lent samples;
   uint32_t ignore;
+  uint32_t edition2;
 };
 
 static struct picture lend_picture(const struct bytes *file, const uint32_t *comps, uint32_t count,
@@ -251,6 +258,7 @@ static struct picture lend_picture(const struct bytes *file, const uint32_t *com
   p.count = count;
   p.samples = lend_copy(samples, samples_len * sizeof *samples);
   p.ignore = 0;
+  p.edition2 = CUZHANTIR_EDITION_1;
   return p;
 }
 
@@ -273,11 +281,11 @@ static struct picture turned_picture(void) {
   return lend_picture(&file, comps, 3, samples, 6);
 }
 
-static struct picture palette_picture(void) {
+static struct picture palette_picture(const uint32_t *definitions, uint32_t defined) {
   static const int32_t samples[2] = {-1, 1};
   uint32_t comps[CUZHANTIR_COMPONENT_LENGTH];
   struct bytes file;
-  palette_file(&file);
+  palette_file(&file, definitions, defined);
   component(comps, 1, 2, 0);
   return lend_picture(&file, comps, 1, samples, 2);
 }
@@ -316,7 +324,7 @@ static uint64_t *answer_of(struct destinations d) {
 }
 
 static uint32_t finish_in_one(struct picture p, struct destinations d) {
-  return cuzhantir_picture(p.file.at, p.file.bytes, p.ignore, (uint32_t *)(void *)p.comps.at,
+  return cuzhantir_picture(p.file.at, p.file.bytes, p.ignore, p.edition2, (uint32_t *)(void *)p.comps.at,
                            p.comps.bytes / sizeof(uint32_t), p.count, (int32_t *)(void *)p.samples.at,
                            p.samples.bytes / sizeof(int32_t), records_of(d), d.records.bytes / sizeof(uint32_t),
                            planes_of(d), d.planes.bytes / sizeof(int32_t), answer_of(d),
@@ -325,8 +333,8 @@ static uint32_t finish_in_one(struct picture p, struct destinations d) {
 
 static uint32_t finish_with(struct picture p, struct lent reading, struct destinations d) {
   return cuzhantir_finish(p.file.at, p.file.bytes, (uint64_t *)(void *)reading.at, reading.bytes / sizeof(uint64_t),
-                          p.ignore, (uint32_t *)(void *)p.comps.at, p.comps.bytes / sizeof(uint32_t), p.count,
-                          (int32_t *)(void *)p.samples.at, p.samples.bytes / sizeof(int32_t), records_of(d),
+                          p.ignore, p.edition2, (uint32_t *)(void *)p.comps.at, p.comps.bytes / sizeof(uint32_t),
+                          p.count, (int32_t *)(void *)p.samples.at, p.samples.bytes / sizeof(int32_t), records_of(d),
                           d.records.bytes / sizeof(uint32_t), planes_of(d), d.planes.bytes / sizeof(int32_t),
                           answer_of(d), d.answer.bytes / sizeof(uint64_t));
 }
@@ -353,6 +361,19 @@ static uint32_t finish_in_two(struct picture p, struct destinations d) {
 typedef uint32_t (*finishing)(struct picture p, struct destinations d);
 
 static const finishing both[2] = {finish_in_one, finish_in_two};
+
+/* Numbers for the edition, and what each has to pick. All 32 bits count, and no bit counts alone. */
+struct pick {
+  uint32_t number;
+  uint32_t edition;
+};
+
+static const struct pick picks[] = {
+    {CUZHANTIR_EDITION_1, 1}, {CUZHANTIR_EDITION_2, 2}, {0, 1},        {1, 2},          {2, 2},
+    {256, 2},                 {65536, 2},               {2147483648u, 2}, {UINT32_MAX, 2},
+};
+
+#define PICKS (sizeof picks / sizeof picks[0])
 
 /* --- reading --- */
 
@@ -566,8 +587,8 @@ static void answers_planes(struct destinations d, uint64_t planes) {
   CHECK(answer[CUZHANTIR_ANSWER_COUNT] == planes);
 }
 
-/* With a picture, a number comes, with its place, by both ways of finishing. */
-static void refuses_finishing(struct picture p, size_t records, size_t planes, uint32_t number, uint64_t place) {
+/* With a picture and its edition, a number comes, with its place, by both ways of finishing. */
+static void refuses_in_edition(struct picture p, size_t records, size_t planes, uint32_t number, uint64_t place) {
   size_t way;
   for (way = 0; way < 2; way++) {
     struct destinations d = lend_destinations(records, planes, CUZHANTIR_ANSWER_LENGTH);
@@ -577,13 +598,23 @@ static void refuses_finishing(struct picture p, size_t records, size_t planes, u
   }
 }
 
-static void finishes_turned(void) {
+/* The same number and place come in both editions. */
+static void refuses_finishing(struct picture p, size_t records, size_t planes, uint32_t number, uint64_t place) {
+  p.edition2 = CUZHANTIR_EDITION_1;
+  refuses_in_edition(p, records, planes, number, place);
+  p.edition2 = CUZHANTIR_EDITION_2;
+  refuses_in_edition(p, records, planes, number, place);
+}
+
+/* Definitions that name colours alone give the same in both editions. */
+static void finishes_turned(uint32_t edition2) {
   static const int32_t packed[6] = {10, 11, 20, 21, 30, 31};
   static const uint32_t starts[3] = {4, 2, 0};
   struct picture p = turned_picture();
   struct destinations d[2];
   size_t way;
   uint32_t plane;
+  p.edition2 = edition2;
   for (way = 0; way < 2; way++) {
     /* one element more than is needed in each, which stays */
     d[way] = lend_destinations(3 * CUZHANTIR_COMPONENT_LENGTH + 1, 7, CUZHANTIR_ANSWER_LENGTH + 1);
@@ -609,11 +640,12 @@ static void finishes_turned(void) {
 }
 
 /* With the ignore flag the records keep their order. */
-static void finishes_ignoring(void) {
+static void finishes_ignoring(uint32_t edition2) {
   struct picture p = turned_picture();
   size_t way;
   uint32_t plane;
   p.ignore = 1;
+  p.edition2 = edition2;
   for (way = 0; way < 2; way++) {
     struct destinations d = lend_destinations(3 * CUZHANTIR_COMPONENT_LENGTH, 6, CUZHANTIR_ANSWER_LENGTH);
     CHECK(both[way](p, d) == CUZHANTIR_DONE);
@@ -626,10 +658,11 @@ static void finishes_ignoring(void) {
 }
 
 /* Entries 10, 20, 30 and 11, 21, 31: sample -1 reads the first row, 1 the second; the second column has a sign. */
-static void finishes_palette(void) {
+static void finishes_palette(uint32_t edition2) {
   static const int32_t looked_up[4] = {10, 20, 11, 21};
-  struct picture p = palette_picture();
+  struct picture p = palette_picture(NULL, 0);
   size_t way;
+  p.edition2 = edition2;
   for (way = 0; way < 2; way++) {
     struct destinations d = lend_destinations(2 * CUZHANTIR_COMPONENT_LENGTH, 4, CUZHANTIR_ANSWER_LENGTH);
     CHECK(both[way](p, d) == CUZHANTIR_DONE);
@@ -642,6 +675,282 @@ static void finishes_palette(void) {
   }
   give_back_picture(p);
 }
+
+/* --- editions --- */
+
+/* What a plane shows: its first sample, and its mark. */
+struct shown {
+  int32_t sample;
+  uint32_t mark;
+};
+
+/* The samples of channels 0 to 3 in pictures of points. */
+enum { A = 10, B = 20, C = 30, D = 40 };
+
+#define POINTS 4
+#define OWN_MARK 7
+
+/* A picture of one point a component, each with the same mark, and definitions, three numbers each. */
+static struct picture points_picture(const uint32_t *definitions, uint32_t defined, uint32_t count, uint32_t mark) {
+  static const int32_t points[POINTS] = {A, B, C, D};
+  uint32_t comps[POINTS * CUZHANTIR_COMPONENT_LENGTH];
+  struct bytes file;
+  size_t jp2h = begin_file(&file);
+  uint32_t c;
+  put_ihdr(&file, 1, 1, count);
+  if (defined > 0) {
+    put_cdef(&file, definitions, defined);
+  }
+  end_file(&file, jp2h);
+  for (c = 0; c < count; c++) {
+    component(comps + c * CUZHANTIR_COMPONENT_LENGTH, 1, 1, c);
+    comps[c * CUZHANTIR_COMPONENT_LENGTH + CUZHANTIR_COMPONENT_ALPHA] = mark;
+  }
+  return lend_picture(&file, comps, count, points, count);
+}
+
+/* A picture of planes of at most two samples is finished to these, by both ways, in the edition that it names. */
+static void finishes_to(struct picture p, const struct shown *planes, uint32_t count) {
+  size_t way;
+  uint32_t n;
+  for (way = 0; way < 2; way++) {
+    struct destinations d =
+        lend_destinations(count * CUZHANTIR_COMPONENT_LENGTH, 2 * (size_t)count, CUZHANTIR_ANSWER_LENGTH);
+    CHECK(both[way](p, d) == CUZHANTIR_DONE);
+    answers_planes(d, count);
+    for (n = 0; n < count; n++) {
+      const uint32_t *record = records_of(d) + n * CUZHANTIR_COMPONENT_LENGTH;
+      uint32_t start = record[CUZHANTIR_COMPONENT_DATA];
+      CHECK(start < 2 * count && planes_of(d)[start] == planes[n].sample);
+      CHECK(record[CUZHANTIR_COMPONENT_ALPHA] == planes[n].mark);
+    }
+    give_back_destinations(d);
+  }
+}
+
+/* The same picture in both editions. */
+static void finishes_by_edition(struct picture p, const struct shown *first, const struct shown *second, uint32_t count) {
+  p.edition2 = CUZHANTIR_EDITION_1;
+  finishes_to(p, first, count);
+  p.edition2 = CUZHANTIR_EDITION_2;
+  finishes_to(p, second, count);
+  give_back_picture(p);
+}
+
+/* Opacity, then a colour; and the two exchanged. */
+static const uint32_t opacity_first[6] = {0, 1, 0, 1, 0, 1};
+static const uint32_t opacity_last[6] = {1, 0, 1, 0, 1, 0};
+
+/* Document 01's marked case: with the opacity first, edition 1 loses its mark and edition 2 does not. */
+static void picks_edition(void) {
+  static const struct shown lost[2] = {{B, 0}, {A, 0}};
+  static const struct shown kept[2] = {{B, 0}, {A, 1}};
+  struct picture first = points_picture(opacity_first, 2, 2, 0);
+  struct picture last = points_picture(opacity_last, 2, 2, 0);
+  size_t i;
+  CHECK(CUZHANTIR_EDITION_1 == 0 && CUZHANTIR_EDITION_2 == 1);
+  for (i = 0; i < PICKS; i++) {
+    first.edition2 = last.edition2 = picks[i].number;
+    finishes_to(first, picks[i].edition == 1 ? lost : kept, 2);
+    finishes_to(last, kept, 2);
+  }
+  give_back_picture(first);
+  give_back_picture(last);
+}
+
+/* In edition 2 a definition sets the mark of its own channel's record, wherever that goes, over the one that it had. */
+static void marks_own_channel(void) {
+  static const struct shown two[2][2] = {{{B, OWN_MARK}, {A, 0}}, {{B, 0}, {A, 1}}};
+  static const uint32_t definitions[12] = {2, 0, 1, 0, 0, 2, 1, 1, 0, 3, 1, 0};
+  static const struct shown four[2][4] = {{{C, OWN_MARK}, {A, 0}, {B, 1}, {D, 1}}, {{C, 0}, {A, 0}, {B, 1}, {D, 1}}};
+  finishes_by_edition(points_picture(opacity_first, 2, 2, OWN_MARK), two[0], two[1], 2);
+  finishes_by_edition(points_picture(definitions, 4, 4, OWN_MARK), four[0], four[1], 4);
+}
+
+/* A channel that is defined twice has the last typ in edition 2, whatever the asoc, and whether or not it moved. */
+static void marks_last_definition(void) {
+  static const uint32_t twice[9] = {0, 1, 0, 0, 2, 0, 1, 0, 1};
+  static const uint32_t turned_round[9] = {0, 2, 0, 0, 1, 0, 1, 0, 1};
+  static const uint32_t not_told[9] = {0, 1, 0, 0, 65535, 65535, 1, 0, 1};
+  static const uint32_t moved_then_marked[9] = {0, 0, 2, 0, 1, 1, 1, 0, 1};
+  static const uint32_t marked_then_moved[9] = {0, 1, 0, 1, 0, 1, 0, 0, 2};
+  static const struct shown none[2] = {{B, 0}, {A, 0}};
+  static const struct shown own[2] = {{B, OWN_MARK}, {A, 0}};
+  static const struct shown marked_1[2] = {{B, 0}, {A, 1}};
+  static const struct shown marked_2[2] = {{B, 0}, {A, 2}};
+  static const struct shown marked_65535[2] = {{B, 0}, {A, 65535}};
+  finishes_by_edition(points_picture(twice, 3, 2, 0), none, marked_2, 2);
+  finishes_by_edition(points_picture(turned_round, 3, 2, 0), none, marked_1, 2);
+  finishes_by_edition(points_picture(not_told, 3, 2, 0), none, marked_65535, 2);
+  finishes_by_edition(points_picture(moved_then_marked, 3, 2, 0), marked_1, marked_1, 2);
+  finishes_by_edition(points_picture(marked_then_moved, 3, 2, OWN_MARK), own, none, 2);
+}
+
+/* The channels of a palette are its columns. */
+static void marks_palette_channels(void) {
+  static const struct shown planes[2][2] = {{{11, 0}, {10, 0}}, {{11, 0}, {10, 1}}};
+  finishes_by_edition(palette_picture(opacity_first, 2), planes[0], planes[1], 2);
+}
+
+/* Where there are no definitions, or they are ignored, no mark is set, and channel 0 need not be defined. */
+static void keeps_marks(void) {
+  static const uint32_t without_0[3] = {1, 0, 2};
+  static const struct shown own[2] = {{A, OWN_MARK}, {B, OWN_MARK}};
+  struct picture undefined = points_picture(NULL, 0, 2, OWN_MARK);
+  struct picture ignored = points_picture(opacity_first, 2, 2, OWN_MARK);
+  struct picture ignored_without_0 = points_picture(without_0, 1, 2, OWN_MARK);
+  size_t i;
+  for (i = 0; i < PICKS; i++) {
+    undefined.edition2 = ignored.edition2 = ignored_without_0.edition2 = picks[i].number;
+    finishes_to(undefined, own, 2);
+    ignored.ignore = ignored_without_0.ignore = 1;
+    finishes_to(ignored, own, 2);
+    finishes_to(ignored_without_0, own, 2);
+    ignored.ignore = UINT32_MAX;
+    finishes_to(ignored, own, 2);
+  }
+  give_back_picture(undefined);
+  give_back_picture(ignored);
+  give_back_picture(ignored_without_0);
+}
+
+/* Edition 2 asks for a definition of channel 0 too, and names the lowest channel that has none. */
+static void asks_for_channel_0(void) {
+  static const uint32_t second_alone[3] = {1, 0, 2};
+  static const uint32_t third_alone[3] = {2, 0, 3};
+  static const uint32_t first_alone[3] = {0, 0, 1};
+  static const struct shown both_planes[2] = {{A, 0}, {B, 0}};
+  struct picture p = points_picture(second_alone, 1, 2, 0);
+  size_t i;
+  for (i = 0; i < PICKS; i++) {
+    p.edition2 = picks[i].number;
+    if (picks[i].edition == 1) {
+      finishes_to(p, both_planes, 2);
+    } else {
+      refuses_in_edition(p, 2 * CUZHANTIR_COMPONENT_LENGTH, 2, CUZHANTIR_CHANNEL_UNDEFINED, 0);
+    }
+  }
+  give_back_picture(p);
+
+  p = points_picture(third_alone, 1, 3, 0);
+  refuses_in_edition(p, 3 * CUZHANTIR_COMPONENT_LENGTH, 3, CUZHANTIR_CHANNEL_UNDEFINED, 1);
+  p.edition2 = CUZHANTIR_EDITION_2;
+  refuses_in_edition(p, 3 * CUZHANTIR_COMPONENT_LENGTH, 3, CUZHANTIR_CHANNEL_UNDEFINED, 0);
+  give_back_picture(p);
+
+  p = points_picture(first_alone, 1, 2, 0);
+  refuses_finishing(p, 2 * CUZHANTIR_COMPONENT_LENGTH, 2, CUZHANTIR_CHANNEL_UNDEFINED, 1);
+  give_back_picture(p);
+  finishes_by_edition(points_picture(first_alone, 1, 1, OWN_MARK), both_planes, both_planes, 1);
+}
+
+/* In edition 1 a number comes that stands behind 26 in the order of the checks; in edition 2 it is 26 for channel 0. */
+static void refuses_later(struct picture p, size_t records, size_t planes, uint32_t number, uint64_t place) {
+  refuses_in_edition(p, records, planes, number, place);
+  p.edition2 = CUZHANTIR_EDITION_2;
+  refuses_in_edition(p, records, planes, CUZHANTIR_CHANNEL_UNDEFINED, 0);
+}
+
+/* 29 and 25 come before 26, and 27, 28 and 30 after it, whichever channel is not defined. */
+static void checks_channel_0_in_turn(void) {
+  static const uint32_t without_0[3] = {1, 0, 2};
+  static const uint32_t outside[6] = {1, 0, 2, 2, 0, 1};
+  struct picture p = points_picture(outside, 2, 2, 0);
+  refuses_finishing(p, 2 * CUZHANTIR_COMPONENT_LENGTH, 2, CUZHANTIR_DEFINITION_OUTSIDE, 1);
+  give_back_picture(p);
+
+  p = points_picture(without_0, 1, 2, 0);
+  p.count = 3;
+  refuses_finishing(p, 3 * CUZHANTIR_COMPONENT_LENGTH, 3, CUZHANTIR_OUTSIDE_LIST, 0);
+  p.count = 2;
+  refuses_later(p, 0, 0, CUZHANTIR_DESTINATION_TOO_SHORT, 2 * CUZHANTIR_COMPONENT_LENGTH);
+  refuses_later(p, 2 * CUZHANTIR_COMPONENT_LENGTH, 1, CUZHANTIR_DESTINATION_TOO_SHORT, 2);
+  give_back_picture(p);
+
+  p = palette_picture(without_0, 1);
+  ((uint32_t *)(void *)p.comps.at)[CUZHANTIR_COMPONENT_DATA] = CUZHANTIR_NO_SAMPLES;
+  refuses_later(p, 2 * CUZHANTIR_COMPONENT_LENGTH, 4, CUZHANTIR_COMPONENT_WITHOUT_SAMPLES, 0);
+  CHECK(p.file.at[PALETTE_SECOND_COLUMN] == 1);
+  p.file.at[PALETTE_SECOND_COLUMN] = 0;
+  refuses_later(p, 2 * CUZHANTIR_COMPONENT_LENGTH, 4, CUZHANTIR_MAPPING_WRONG, 1);
+  give_back_picture(p);
+}
+
+/* Order n, below 24, of four definitions. */
+static void arrange(uint32_t n, const uint32_t *listed, uint32_t *arranged) {
+  uint32_t left[4] = {0, 1, 2, 3};
+  uint32_t i;
+  uint32_t k;
+  for (i = 0; i < 4; i++) {
+    uint32_t chosen = n % (4 - i);
+    n /= 4 - i;
+    memcpy(arranged + 3 * i, listed + 3 * left[chosen], 3 * sizeof *arranged);
+    for (k = chosen; k + 1 < 4 - i; k++) {
+      left[k] = left[k + 1];
+    }
+  }
+}
+
+/* The numbers of all records in which two finished pictures of four planes differ, the mark apart from the others. */
+struct differing {
+  uint32_t marks;
+  uint32_t others;
+};
+
+static struct differing compare_records(struct destinations a, struct destinations b) {
+  struct differing d = {0, 0};
+  uint32_t i;
+  for (i = 0; i < 4 * CUZHANTIR_COMPONENT_LENGTH; i++) {
+    if (records_of(a)[i] == records_of(b)[i]) {
+      continue;
+    }
+    if (i % CUZHANTIR_COMPONENT_LENGTH == CUZHANTIR_COMPONENT_ALPHA) {
+      d.marks++;
+    } else {
+      d.others++;
+    }
+  }
+  return d;
+}
+
+/* No channel and no colour is named twice, so the order of the definitions does not matter: in edition 2 all numbers of the
+   records are the same, in edition 1 all but the marks, and there some order changes a mark. */
+static void lists_definitions_freely(void) {
+  static const uint32_t listed[12] = {2, 0, 1, 0, 0, 2, 1, 1, 0, 3, 2, 0};
+  uint32_t arranged[12];
+  uint32_t edition2;
+  uint32_t n;
+  size_t way;
+  for (edition2 = CUZHANTIR_EDITION_1; edition2 <= CUZHANTIR_EDITION_2; edition2++) {
+    struct picture as_listed = points_picture(listed, 4, 4, 0);
+    struct destinations first = lend_destinations(4 * CUZHANTIR_COMPONENT_LENGTH, 4, CUZHANTIR_ANSWER_LENGTH);
+    uint32_t marks = 0;
+    as_listed.edition2 = edition2;
+    CHECK(finish_in_one(as_listed, first) == CUZHANTIR_DONE);
+    for (n = 0; n < 24; n++) {
+      struct picture p;
+      arrange(n, listed, arranged);
+      p = points_picture(arranged, 4, 4, 0);
+      p.edition2 = edition2;
+      for (way = 0; way < 2; way++) {
+        struct destinations d = lend_destinations(4 * CUZHANTIR_COMPONENT_LENGTH, 4, CUZHANTIR_ANSWER_LENGTH);
+        struct differing differing;
+        CHECK(both[way](p, d) == CUZHANTIR_DONE);
+        differing = compare_records(d, first);
+        CHECK(differing.others == 0);
+        CHECK(memcmp(planes_of(d), planes_of(first), 4 * sizeof(int32_t)) == 0);
+        marks += differing.marks;
+        give_back_destinations(d);
+      }
+      give_back_picture(p);
+    }
+    CHECK((marks == 0) == (edition2 == CUZHANTIR_EDITION_2));
+    give_back_destinations(first);
+    give_back_picture(as_listed);
+  }
+}
+
+/* --- refusals of finishing --- */
 
 /* The needed lengths: asked with nothing, then records alone, then both. */
 static void asks_for_lengths(void) {
@@ -695,11 +1004,12 @@ static void refuses_file(void) {
 }
 
 /* A list for the answer of fewer than 4 numbers: nothing is done. */
-static void refuses_short_answer(void) {
+static void refuses_short_answer(uint32_t edition2) {
   struct picture p = turned_picture();
   struct lent no_reading = lend(0);
   size_t length;
   size_t way;
+  p.edition2 = edition2;
   for (length = 0; length < CUZHANTIR_ANSWER_LENGTH; length++) {
     for (way = 0; way < 2; way++) {
       struct destinations d = lend_destinations(3 * CUZHANTIR_COMPONENT_LENGTH, 6, length);
@@ -727,12 +1037,13 @@ static void refuses_reading_list(struct picture p, struct lent reading, uint32_t
 }
 
 /* Finishing with a list that is no reading, with one of another file, and with a refused one. */
-static void refuses_no_reading(void) {
+static void refuses_no_reading(uint32_t edition2) {
   struct picture p = turned_picture();
   uint32_t returned;
   struct lent reading = read_lent(p.file, &returned);
   uint64_t *numbers = (uint64_t *)(void *)reading.at;
   size_t length;
+  p.edition2 = edition2;
   for (length = 0; length < CUZHANTIR_READING_LENGTH; length++) {
     struct lent shorter = lend_copy(reading.at, length * sizeof(uint64_t));
     refuses_reading_list(p, shorter, CUZHANTIR_OUTSIDE_LIST, 0);
@@ -776,7 +1087,7 @@ static void refuses_no_reading(void) {
 }
 
 /* Lists of length 0 with a pointer to nothing: a picture without components, and one whose planes have no samples. */
-static void takes_null(void) {
+static void takes_null(uint32_t edition2) {
   uint64_t reading[CUZHANTIR_READING_LENGTH];
   uint64_t answer[CUZHANTIR_ANSWER_LENGTH];
   uint32_t comps[3 * CUZHANTIR_COMPONENT_LENGTH];
@@ -785,33 +1096,33 @@ static void takes_null(void) {
   uint32_t c;
   CHECK(cuzhantir_read(NULL, 0, NULL, 0) == CUZHANTIR_DESTINATION_TOO_SHORT);
   CHECK(cuzhantir_read(NULL, 0, reading, CUZHANTIR_READING_LENGTH) == CUZHANTIR_DONE);
-  CHECK(cuzhantir_finish(NULL, 0, reading, CUZHANTIR_READING_LENGTH, 0, NULL, 0, 0, NULL, 0, NULL, 0, NULL, 0, answer,
-                         CUZHANTIR_ANSWER_LENGTH) == CUZHANTIR_DONE);
+  CHECK(cuzhantir_finish(NULL, 0, reading, CUZHANTIR_READING_LENGTH, 0, edition2, NULL, 0, 0, NULL, 0, NULL, 0, NULL, 0,
+                         answer, CUZHANTIR_ANSWER_LENGTH) == CUZHANTIR_DONE);
   CHECK(answer[CUZHANTIR_ANSWER_COUNT] == 0);
-  CHECK(cuzhantir_finish(NULL, 0, NULL, 0, 0, NULL, 0, 0, NULL, 0, NULL, 0, NULL, 0, answer, CUZHANTIR_ANSWER_LENGTH) ==
-        CUZHANTIR_OUTSIDE_LIST);
-  CHECK(cuzhantir_finish(NULL, 0, NULL, 0, 0, NULL, 0, 0, NULL, 0, NULL, 0, NULL, 0, NULL, 0) ==
+  CHECK(cuzhantir_finish(NULL, 0, NULL, 0, 0, edition2, NULL, 0, 0, NULL, 0, NULL, 0, NULL, 0, answer,
+                         CUZHANTIR_ANSWER_LENGTH) == CUZHANTIR_OUTSIDE_LIST);
+  CHECK(cuzhantir_finish(NULL, 0, NULL, 0, 0, edition2, NULL, 0, 0, NULL, 0, NULL, 0, NULL, 0, NULL, 0) ==
         CUZHANTIR_DESTINATION_TOO_SHORT);
-  CHECK(cuzhantir_picture(NULL, 0, 0, NULL, 0, 0, NULL, 0, NULL, 0, NULL, 0, answer, CUZHANTIR_ANSWER_LENGTH) ==
-        CUZHANTIR_DONE);
-  CHECK(cuzhantir_picture(NULL, 0, 0, NULL, 0, 0, NULL, 0, NULL, 0, NULL, 0, NULL, 0) ==
+  CHECK(cuzhantir_picture(NULL, 0, 0, edition2, NULL, 0, 0, NULL, 0, NULL, 0, NULL, 0, answer,
+                          CUZHANTIR_ANSWER_LENGTH) == CUZHANTIR_DONE);
+  CHECK(cuzhantir_picture(NULL, 0, 0, edition2, NULL, 0, 0, NULL, 0, NULL, 0, NULL, 0, NULL, 0) ==
         CUZHANTIR_DESTINATION_TOO_SHORT);
-  CHECK(cuzhantir_picture(NULL, 0, 0, NULL, 0, 1, NULL, 0, NULL, 0, NULL, 0, answer, CUZHANTIR_ANSWER_LENGTH) ==
-        CUZHANTIR_OUTSIDE_LIST);
+  CHECK(cuzhantir_picture(NULL, 0, 0, edition2, NULL, 0, 1, NULL, 0, NULL, 0, NULL, 0, answer,
+                          CUZHANTIR_ANSWER_LENGTH) == CUZHANTIR_OUTSIDE_LIST);
 
   turned_file(&file);
   for (c = 0; c < 3; c++) {
     component(comps + c * CUZHANTIR_COMPONENT_LENGTH, 1, 2, CUZHANTIR_NO_SAMPLES);
   }
-  CHECK(cuzhantir_picture(file.at, file.length, 0, comps, 3 * CUZHANTIR_COMPONENT_LENGTH, 3, NULL, 0, records,
+  CHECK(cuzhantir_picture(file.at, file.length, 0, edition2, comps, 3 * CUZHANTIR_COMPONENT_LENGTH, 3, NULL, 0, records,
                           3 * CUZHANTIR_COMPONENT_LENGTH, NULL, 0, answer, CUZHANTIR_ANSWER_LENGTH) == CUZHANTIR_DONE);
   CHECK(answer[CUZHANTIR_ANSWER_COUNT] == 3);
   CHECK(records[CUZHANTIR_COMPONENT_DATA] == CUZHANTIR_NO_SAMPLES);
   CHECK(cuzhantir_read(file.at, file.length, reading, CUZHANTIR_READING_LENGTH) == CUZHANTIR_DONE);
-  CHECK(cuzhantir_finish(file.at, file.length, reading, CUZHANTIR_READING_LENGTH, 0, comps,
+  CHECK(cuzhantir_finish(file.at, file.length, reading, CUZHANTIR_READING_LENGTH, 0, edition2, comps,
                          3 * CUZHANTIR_COMPONENT_LENGTH, 3, NULL, 0, records, 3 * CUZHANTIR_COMPONENT_LENGTH, NULL, 0,
                          answer, CUZHANTIR_ANSWER_LENGTH) == CUZHANTIR_DONE);
-  CHECK(cuzhantir_finish(file.at, file.length, reading, CUZHANTIR_READING_LENGTH, 0, comps,
+  CHECK(cuzhantir_finish(file.at, file.length, reading, CUZHANTIR_READING_LENGTH, 0, edition2, comps,
                          3 * CUZHANTIR_COMPONENT_LENGTH, 3, NULL, 0, NULL, 0, NULL, 0, answer,
                          CUZHANTIR_ANSWER_LENGTH) == CUZHANTIR_DESTINATION_TOO_SHORT);
   CHECK(cuzhantir_write(NULL, 0, 0, 0, 0, 1, 1, CUZHANTIR_SPACE_GREY, NULL, 0, 0, NULL, 0, answer,
@@ -1015,15 +1326,28 @@ int main(int argc, char **argv) {
   refuses_small_files();
   reads_ended();
   reads_into_any_length();
-  finishes_turned();
-  finishes_ignoring();
-  finishes_palette();
+  for (i = 0; i < PICKS; i++) {
+    finishes_turned(picks[i].number);
+    finishes_ignoring(picks[i].number);
+    finishes_palette(picks[i].number);
+  }
+  picks_edition();
+  marks_own_channel();
+  marks_last_definition();
+  marks_palette_channels();
+  keeps_marks();
+  asks_for_channel_0();
+  checks_channel_0_in_turn();
+  lists_definitions_freely();
   asks_for_lengths();
   refuses_short_sources();
   refuses_file();
-  refuses_short_answer();
-  refuses_no_reading();
-  takes_null();
+  refuses_short_answer(CUZHANTIR_EDITION_1);
+  refuses_short_answer(CUZHANTIR_EDITION_2);
+  refuses_no_reading(CUZHANTIR_EDITION_1);
+  refuses_no_reading(CUZHANTIR_EDITION_2);
+  takes_null(CUZHANTIR_EDITION_1);
+  takes_null(CUZHANTIR_EDITION_2);
   writes_and_reads_back();
   writes_profile();
   refuses_requests();

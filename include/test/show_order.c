@@ -1,5 +1,6 @@
 /*
- * Shows which channel of a JP2 file is on which plane once its picture is finished, and what it is: show_order FILE
+ * Shows which channel of a JP2 file is on which plane once its picture is finished, what it is, and its mark:
+ * show_order FILE [EDITION], with edition 1 or 2, and 1 where none is named.
  *
  * Exit status: 0 shown; 1 the file is refused, ends before a codestream or cannot be read; 2 usage.
  */
@@ -44,7 +45,8 @@ static uint8_t *whole_file(const char *name, size_t *length) {
   return bytes;
 }
 
-/* What a channel is. Its definition says it; the mark of a finished plane does not (see cuzhantir_finish). */
+/* What a channel is. Its definition says it in both editions; the mark of a finished plane says it in edition 2 alone (see
+   cuzhantir_finish). */
 static void show_channel(const uint8_t *file, size_t length, const uint64_t *reading, uint32_t channel) {
   static const char *const colours[] = {"red, grey or Y", "green or Cb", "blue or Cr"};
   struct cuzhantir_definition d;
@@ -64,7 +66,6 @@ static void show_channel(const uint8_t *file, size_t length, const uint64_t *rea
       printf(", not told");
     }
   }
-  printf("\n");
 }
 
 static int refused(uint64_t number, const char *at, uint64_t place) {
@@ -74,7 +75,7 @@ static int refused(uint64_t number, const char *at, uint64_t place) {
 
 /* Finishes a picture of one sample a component. Samples are packed in the order of the channels, so the first sample's index
    of a plane is the number of its channel. */
-static int show(const uint8_t *file, size_t length) {
+static int show(const uint8_t *file, size_t length, uint32_t edition2) {
   static uint32_t comps[MOST_CHANNELS * CUZHANTIR_COMPONENT_LENGTH], records[MOST_CHANNELS * CUZHANTIR_COMPONENT_LENGTH];
   static int32_t samples[MOST_CHANNELS], planes[MOST_CHANNELS];
   uint64_t reading[CUZHANTIR_READING_LENGTH], answer[CUZHANTIR_ANSWER_LENGTH], p;
@@ -97,9 +98,9 @@ static int show(const uint8_t *file, size_t length) {
     comps[c * CUZHANTIR_COMPONENT_LENGTH + CUZHANTIR_COMPONENT_H] = 1;
     comps[c * CUZHANTIR_COMPONENT_LENGTH + CUZHANTIR_COMPONENT_DATA] = c;
   }
-  number = cuzhantir_finish(file, length, reading, CUZHANTIR_READING_LENGTH, 0, comps, sizeof comps / sizeof *comps, count,
-                            samples, MOST_CHANNELS, records, sizeof records / sizeof *records, planes, MOST_CHANNELS, answer,
-                            CUZHANTIR_ANSWER_LENGTH);
+  number = cuzhantir_finish(file, length, reading, CUZHANTIR_READING_LENGTH, 0, edition2, comps,
+                            sizeof comps / sizeof *comps, count, samples, MOST_CHANNELS, records,
+                            sizeof records / sizeof *records, planes, MOST_CHANNELS, answer, CUZHANTIR_ANSWER_LENGTH);
   if (number != CUZHANTIR_DONE) {
     return refused(number, "index", answer[CUZHANTIR_ANSWER_PLACE]);
   }
@@ -107,18 +108,31 @@ static int show(const uint8_t *file, size_t length) {
          (unsigned long long)reading[CUZHANTIR_READING_H], (unsigned)count,
          reading[CUZHANTIR_READING_CDEF_COUNT] == 0 ? ", no definitions: the channels keep their order" : "");
   for (p = 0; p < answer[CUZHANTIR_ANSWER_COUNT]; p++) {
+    const uint32_t *record = records + p * CUZHANTIR_COMPONENT_LENGTH;
     printf("plane %llu: ", (unsigned long long)p);
-    show_channel(file, length, reading, records[p * CUZHANTIR_COMPONENT_LENGTH + CUZHANTIR_COMPONENT_DATA]);
+    show_channel(file, length, reading, record[CUZHANTIR_COMPONENT_DATA]);
+    printf(", mark %u\n", (unsigned)record[CUZHANTIR_COMPONENT_ALPHA]);
   }
   return 0;
+}
+
+/* The number of an edition that is named by "1" or "2". Answers 0 where the name is another. */
+static int edition_named(const char *name, uint32_t *edition2) {
+  if (strcmp(name, "1") == 0) {
+    *edition2 = CUZHANTIR_EDITION_1;
+    return 1;
+  }
+  *edition2 = CUZHANTIR_EDITION_2;
+  return strcmp(name, "2") == 0;
 }
 
 int main(int argc, char **argv) {
   uint8_t *file;
   size_t length;
+  uint32_t edition2 = CUZHANTIR_EDITION_1;
   int status;
-  if (argc != 2) {
-    fprintf(stderr, "usage: show_order FILE\n");
+  if (argc < 2 || argc > 3 || (argc == 3 && !edition_named(argv[2], &edition2))) {
+    fprintf(stderr, "usage: show_order FILE [EDITION]\n");
     return 2;
   }
   file = whole_file(argv[1], &length);
@@ -126,7 +140,7 @@ int main(int argc, char **argv) {
     fprintf(stderr, "show_order: %s: %s\n", argv[1], strerror(errno));
     return 1;
   }
-  status = show(file, length);
+  status = show(file, length, edition2);
   free(file);
   return status;
 }

@@ -3,6 +3,8 @@
  *
  *   stack PICTURE          PICTURE is a file with definitions or a palette, of at most 64 channels
  *
+ * Finishing is measured in both editions, and has to keep to the same bounds.
+ *
  * An entry runs in a thread whose stack is filled with a pattern before. The deepest byte that has changed afterwards says
  * how much was taken; what a thread takes that calls nothing is subtracted.
  */
@@ -33,6 +35,7 @@ static const int32_t samples[1] = {1};
 static int32_t planes[MOST];
 static uint32_t count;
 static uint32_t ignore;
+static uint32_t edition2;
 static uint32_t returned;
 static uint8_t written[262144];
 
@@ -44,15 +47,15 @@ static void reads(void) {
 }
 
 static void finishes(void) {
-  returned = cuzhantir_finish(file, file_len, reading, CUZHANTIR_READING_LENGTH, ignore, comps,
+  returned = cuzhantir_finish(file, file_len, reading, CUZHANTIR_READING_LENGTH, ignore, edition2, comps,
                               sizeof comps / sizeof comps[0], count, samples, 1, records,
                               sizeof records / sizeof records[0], planes, MOST, answer, CUZHANTIR_ANSWER_LENGTH);
 }
 
 static void reads_and_finishes(void) {
   returned =
-      cuzhantir_picture(file, file_len, ignore, comps, sizeof comps / sizeof comps[0], count, samples, 1, records,
-                        sizeof records / sizeof records[0], planes, MOST, answer, CUZHANTIR_ANSWER_LENGTH);
+      cuzhantir_picture(file, file_len, ignore, edition2, comps, sizeof comps / sizeof comps[0], count, samples, 1,
+                        records, sizeof records / sizeof records[0], planes, MOST, answer, CUZHANTIR_ANSWER_LENGTH);
 }
 
 static void writes(void) {
@@ -102,7 +105,7 @@ static int within(const char *what, job j, size_t bound) {
   size_t all = taken(j);
   size_t used = all > own ? all - own : 0;
   int fits = returned == CUZHANTIR_DONE && used > 0 && used <= bound;
-  printf("%-52s %6zu bytes of %6zu%s\n", what, used, bound, fits ? "" : ": does not hold");
+  printf("%-64s %6zu bytes of %6zu%s\n", what, used, bound, fits ? "" : ": does not hold");
   return fits;
 }
 
@@ -156,17 +159,28 @@ static void set_reversed(uint32_t n) {
   }
 }
 
-/* Reads, and finishes in both ways, a picture of n channels in reverse order. */
+/* Finishes a picture in both ways and in both editions. */
+static int within_finishing(const char *picture, size_t bound) {
+  char what[96];
+  int holds = 1;
+  for (edition2 = CUZHANTIR_EDITION_1; edition2 <= CUZHANTIR_EDITION_2; edition2++) {
+    unsigned edition = edition2 == CUZHANTIR_EDITION_1 ? 1 : 2;
+    snprintf(what, sizeof what, "finishing, edition %u%s", edition, picture);
+    holds &= within(what, finishes, bound);
+    snprintf(what, sizeof what, "reading and finishing, edition %u%s", edition, picture);
+    holds &= within(what, reads_and_finishes, bound);
+  }
+  return holds;
+}
+
+/* Reads and finishes a picture of n channels in reverse order. */
 static int within_reversed(uint32_t n, size_t bound) {
-  char what[64];
-  int holds;
+  char picture[64];
   set_reversed(n);
   set_components(n);
   reads();
-  snprintf(what, sizeof what, "finishing, %u channels in reverse", (unsigned)n);
-  holds = within(what, finishes, bound);
-  snprintf(what, sizeof what, "reading and finishing, %u channels in reverse", (unsigned)n);
-  return within(what, reads_and_finishes, bound) && holds;
+  snprintf(picture, sizeof picture, ", %u channels in reverse", (unsigned)n);
+  return within_finishing(picture, bound);
 }
 
 int main(int argc, char **argv) {
@@ -179,15 +193,13 @@ int main(int argc, char **argv) {
   fclose(f);
   holds &= within("reading", reads, CUZHANTIR_STACK_READ);
   set_components((uint32_t)reading[CUZHANTIR_READING_NUMCOMPS]);
-  holds &= within("finishing", finishes, CUZHANTIR_STACK_FINISH_64);
-  holds &= within("reading and finishing", reads_and_finishes, CUZHANTIR_STACK_FINISH_64);
+  holds &= within_finishing("", CUZHANTIR_STACK_FINISH_64);
   holds &= within_reversed(FEW, CUZHANTIR_STACK_FINISH_64);
   holds &= within_reversed(SOME, CUZHANTIR_STACK_FINISH);
   holds &= within_reversed(MOST, CUZHANTIR_STACK_FINISH);
   ignore = 1;
   set_components(MOST);
-  holds &= within("finishing, 16384 components", finishes, CUZHANTIR_STACK_FINISH);
-  holds &= within("reading and finishing, 16384 components", reads_and_finishes, CUZHANTIR_STACK_FINISH);
+  holds &= within_finishing(", 16384 components", CUZHANTIR_STACK_FINISH);
   holds &= within("writing, 16384 components", writes, CUZHANTIR_STACK_READ);
   return holds ? 0 : 1;
 }

@@ -8,11 +8,16 @@
 //! A refusal is one of the numbers of document 01, the scope of the project, with a place: [`Refused`]. It changes no
 //! destination. A file that ends before a codestream, such as an empty one, is not refused: test [`Header::codestream`].
 //!
+//! A picture is finished by one of two editions of the rules, which the caller names: [`Edition`].
+//!
 //! Which plane is which is said by the definitions ([`Header::definitions`]): the channel that is defined as colour k is on
-//! plane k - 1. The marks of finished planes do not say it; see [`Component::alpha`].
+//! plane k - 1. In edition 2 the mark of a finished plane says what its channel's definition says; in edition 1 marks may be
+//! lost, so do not go by them; see [`Component::alpha`].
 //!
 //! ```
-//! use cuzhantir_jp2::{finish, read, write, Asoc, ColourSpace, Component, Components, WriteRequest};
+//! use cuzhantir_jp2::{
+//!     finish, read, write, Asoc, ColourSpace, Component, Components, Edition, WriteRequest,
+//! };
 //!
 //! // two planes of one row: grey, and the opacity of the picture
 //! let grey = Component { w: 2, h: 1, prec: 8, data: Some(0), ..Component::default() };
@@ -33,11 +38,13 @@
 //! assert_eq!(header.codestream(), Some(file.len()));
 //! assert_eq!(header.definitions().map(|d| d.asoc).collect::<Vec<_>>(), [Asoc::Colour(1), Asoc::Whole]);
 //!
-//! // colour 1 is on plane 0, and the other plane is the opacity
+//! // colour 1 is on plane 0, and the other plane is the opacity, as its mark says in edition 2
 //! let samples = [10, 11, 255, 0];
-//! let picture = finish(&header, &Components::new(&[grey, opacity], &samples), false)?;
+//! let decoded = Components::new(&[grey, opacity], &samples);
+//! let picture = finish(&header, &decoded, false, Edition::Two)?;
 //! assert_eq!(picture.plane(0).unwrap().samples, Some(&[10, 11][..]));
 //! assert_eq!(picture.plane(1).unwrap().samples, Some(&[255, 0][..]));
+//! assert_eq!(picture.plane(1).unwrap().record.alpha, 1);
 //! # Ok::<(), cuzhantir_jp2::Refused>(())
 //! ```
 //!
@@ -63,8 +70,8 @@ pub use lists::{
     Row, Rows, Typ,
 };
 pub use picture::{
-    finish, finish_into, read_and_finish, read_and_finish_into, Component, Components, Picture,
-    Plane, Planes,
+    finish, finish_into, read_and_finish, read_and_finish_into, Component, Components, Edition,
+    Picture, Plane, Planes,
 };
 pub use writing::{write, write_into, ColourSpace, WriteRequest};
 

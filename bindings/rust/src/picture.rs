@@ -34,9 +34,14 @@ pub struct Component {
     /// none too.
     pub data: Option<u32>,
     /// The mark. For writing, a component with any mark but 0 is the opacity of the picture; [`write`](fn@crate::write)
-    /// says when that gets into the file. Of a finished plane the mark does not say whether it is opacity: each definition
-    /// sets a mark, and a later one may set it again after the record has moved. With the definitions (0, 1, 0), (1, 0, 1),
-    /// opacity and then a colour, both planes have mark 0. Go by the definitions.
+    /// says when that gets into the file.
+    ///
+    /// Of a plane that was finished by [`Edition::Two`] with the file's definitions, the mark is the typ, as a number, of
+    /// its channel's last definition: 1 or 2 is opacity. Of one that was finished by [`Edition::One`] it does not say whether
+    /// the plane is opacity, so go by the definitions: each definition sets a mark, and a later one may set it again after
+    /// the record has moved. With the definitions (0, 1, 0), (1, 0, 1), opacity and then a colour, channel 1 is on plane 0
+    /// and channel 0 on plane 1. Their marks are 0 and 1 in edition 2, and 0 and 0 in edition 1. Without definitions, or where
+    /// they are ignored, a plane has the mark of its component.
     pub alpha: u32,
 }
 
@@ -91,6 +96,31 @@ pub(crate) fn counted(components: &[Component]) -> u32 {
     u32::try_from(components.len()).unwrap_or(u32::MAX)
 }
 
+/// The edition of the rules by which a picture is finished. It has to be named: none is taken by default.
+///
+/// The editions differ in two things: the marks of finished planes ([`Component::alpha`]), and whether channel 0 has to be
+/// defined. All else is the same: which channel is on which plane, every other field of the records, the samples, and every
+/// other refusal.
+#[derive(Clone, Copy, Debug, PartialEq, Eq, Hash)]
+pub enum Edition {
+    /// Edition 1: the crate's behaviour, and that of installed cameras. Channels from 1 up have to be defined, where there
+    /// are definitions. A mark may be lost where a later definition moves records.
+    One,
+    /// Edition 2, which is closer to Annex I: each plane has the mark that its own channel's definition gives, the last one
+    /// where there are several; and channel 0 has to be defined too, where there are definitions.
+    Two,
+}
+
+impl Edition {
+    /// The number that `include/cuzhantir_jp2.h` has for it.
+    pub fn number(self) -> u32 {
+        match self {
+            Edition::One => 0,
+            Edition::Two => 1,
+        }
+    }
+}
+
 /// The components of a decoded picture, and the samples of all of them in one list.
 #[derive(Clone, Debug, PartialEq, Eq)]
 pub struct Components<'a> {
@@ -119,9 +149,10 @@ impl<'a> Components<'a> {
         }
     }
 
-    fn handed(&self, ignore: bool) -> Handed<'_> {
+    fn handed(&self, ignore: bool, edition: Edition) -> Handed<'_> {
         Handed {
             ignore,
+            edition,
             comps: &self.numbers,
             count: self.count,
             samples: self.samples,
@@ -239,8 +270,8 @@ fn records_of(numbers: &[u32], planes: usize) -> Vec<Component> {
 }
 
 /// Finishes a picture with what was read of its file: samples looked up in the palette, channels packed, and their records
-/// in the order of the definitions. With `ignore` palette, mappings and definitions count for nothing, and the components
-/// are copied.
+/// in the order of the definitions, with marks by the edition. With `ignore` palette, mappings and definitions count for
+/// nothing, and the components are copied, marks included; then both editions give the same.
 ///
 /// Where there is a palette with mappings, there is a channel for each of its columns, with the column's depth, also where a
 /// mapping uses a component directly; else each component is a channel. Samples are packed in the order of the channels and
@@ -252,10 +283,11 @@ fn records_of(numbers: &[u32], planes: usize) -> Vec<Component> {
 ///
 /// # Errors
 ///
-/// The numbers 25 to 30. 30 comes where over 4294967294 samples, or more memory than there is, would be needed.
+/// The numbers 25 to 30. 26 names channel 0 in [`Edition::Two`] alone. 30 comes where over 4294967294 samples, or more memory
+/// than there is, would be needed.
 ///
 /// ```
-/// use cuzhantir_jp2::{finish, read, Component, Components};
+/// use cuzhantir_jp2::{finish, read, Component, Components, Edition};
 ///
 /// // a picture whose channels are blue, green and red
 /// let file = std::fs::read("../../samples/gdal-bgr.jp2")?;
@@ -264,7 +296,8 @@ fn records_of(numbers: &[u32], planes: usize) -> Vec<Component> {
 /// // three components of one sample each, as a decoder would give them
 /// let component = |at| Component { w: 1, h: 1, prec: 8, data: Some(at), ..Component::default() };
 /// let components = [component(0), component(1), component(2)];
-/// let picture = finish(&header, &Components::new(&components, &[10, 20, 30]), false)?;
+/// let decoded = Components::new(&components, &[10, 20, 30]);
+/// let picture = finish(&header, &decoded, false, Edition::Two)?;
 /// assert_eq!(picture.plane(0).unwrap().sample(0, 0), Some(30));
 /// # Ok::<(), Box<dyn std::error::Error>>(())
 /// ```
@@ -272,8 +305,9 @@ pub fn finish(
     header: &Header<'_>,
     components: &Components<'_>,
     ignore: bool,
+    edition: Edition,
 ) -> Result<Picture, Refused> {
-    finished(|records, planes| finish_into(header, components, ignore, records, planes))
+    finished(|records, planes| finish_into(header, components, ignore, edition, records, planes))
 }
 
 /// As [`finish`], to lists of the caller's: 13 numbers a plane to `records`, and the samples to `planes`. Answers how many
@@ -286,13 +320,14 @@ pub fn finish_into(
     header: &Header<'_>,
     components: &Components<'_>,
     ignore: bool,
+    edition: Edition,
     records: &mut [u32],
     planes: &mut [i32],
 ) -> Result<usize, Refused> {
     raw::finish(
         header.file(),
         header.numbers(),
-        components.handed(ignore),
+        components.handed(ignore, edition),
         records,
         planes,
     )
@@ -308,8 +343,11 @@ pub fn read_and_finish(
     file: &[u8],
     components: &Components<'_>,
     ignore: bool,
+    edition: Edition,
 ) -> Result<Picture, Refused> {
-    finished(|records, planes| read_and_finish_into(file, components, ignore, records, planes))
+    finished(|records, planes| {
+        read_and_finish_into(file, components, ignore, edition, records, planes)
+    })
 }
 
 /// As [`read_and_finish`], to lists of the caller's, as for [`finish_into`].
@@ -321,10 +359,11 @@ pub fn read_and_finish_into(
     file: &[u8],
     components: &Components<'_>,
     ignore: bool,
+    edition: Edition,
     records: &mut [u32],
     planes: &mut [i32],
 ) -> Result<usize, Refused> {
-    raw::picture(file, components.handed(ignore), records, planes)
+    raw::picture(file, components.handed(ignore, edition), records, planes)
 }
 
 #[cfg(test)]

@@ -1,7 +1,7 @@
 //! The four entries of the library, over slices. All that is unsafe is in this file.
 
 use crate::exports::{cuzhantir_finish, cuzhantir_picture, cuzhantir_read, cuzhantir_write};
-use crate::{Refused, READING_LENGTH};
+use crate::{Edition, Refused, READING_LENGTH};
 
 /// Where the parts of a reading that tell of a refusal stand.
 const READING_PLACE: usize = 2;
@@ -41,6 +41,7 @@ pub(crate) fn read(file: &[u8]) -> Result<[u64; READING_LENGTH], Refused> {
 #[derive(Clone, Copy)]
 pub(crate) struct Handed<'a> {
     pub ignore: bool,
+    pub edition: Edition,
     pub comps: &'a [u32],
     pub count: u32,
     pub samples: &'a [i32],
@@ -64,6 +65,7 @@ pub(crate) fn finish(
             reading.as_ptr(),
             reading.len(),
             u32::from(handed.ignore),
+            handed.edition.number(),
             handed.comps.as_ptr(),
             handed.comps.len(),
             handed.count,
@@ -94,6 +96,7 @@ pub(crate) fn picture(
             file.as_ptr(),
             file.len(),
             u32::from(handed.ignore),
+            handed.edition.number(),
             handed.comps.as_ptr(),
             handed.comps.len(),
             handed.count,

@@ -1,6 +1,6 @@
-//! Causes, places and declarations are those of the C header, which include/test/names holds to the repository.
+//! Causes, places, editions and declarations are those of the C header, which include/test/names holds to the repository.
 
-use cuzhantir_jp2::{Cause, COMPONENT_LENGTH, NO_SAMPLES, READING_LENGTH};
+use cuzhantir_jp2::{Cause, Edition, COMPONENT_LENGTH, NO_SAMPLES, READING_LENGTH};
 
 const HEADER: &str = include_str!("../../../include/cuzhantir_jp2.h");
 const EXPORTS: &str = include_str!("../src/exports.rs");
@@ -54,6 +54,15 @@ fn causes_have_the_words_of_the_header() {
         );
         assert!(HEADER.contains(&case), "the header lacks {case}");
     }
+}
+
+#[test]
+fn editions_are_those_of_the_header() {
+    let here = [
+        ("CUZHANTIR_EDITION_1".to_owned(), Edition::One.number()),
+        ("CUZHANTIR_EDITION_2".to_owned(), Edition::Two.number()),
+    ];
+    assert_eq!(enumerators("cuzhantir_edition"), here);
 }
 
 #[test]
