@@ -11,7 +11,7 @@ static void compare_numbers(const struct lent *l, const uint64_t *expected, size
     memcpy(given, l->own, count * sizeof *given);
     for (size_t i = 0; i < count; i++)
         if (given[i] != expected[i])
-            finding("%s: number %zu is %" PRIu64 ", and document 01 asks for %" PRIu64, name, i, given[i], expected[i]);
+            finding("%s: number %zu is %" PRIu64 ", and %" PRIu64 " is asked for", name, i, given[i], expected[i]);
 }
 
 static void check_number(uint64_t number, uint64_t lowest, uint64_t highest)

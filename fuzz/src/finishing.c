@@ -1,8 +1,9 @@
 // The target of finishing: a file, a picture and two destinations, finished in one step and with a reading.
-#include "call.h"
 #include "checks.h"
 #include "files.h"
 #include "finding.h"
+#include "finish_calls.h"
+#include "finish_rules.h"
 #include "reach.h"
 
 #include <inttypes.h>
@@ -11,53 +12,6 @@
 #define MOST_DISTINCT 16
 static uint32_t comps[(MOST_COMPONENTS + 2) * COMPONENT_NUMBERS];
 static int32_t samples[MODEL_SAMPLES];
-
-// What is handed in, and how.
-#define MOST_READING (READING_NUMBERS + 32)
-struct request {
-    struct model_picture p;
-    uint64_t reading[MOST_READING]; // as it is lent to finishing alone
-    uint64_t reading_len;
-    uint64_t answer_len;
-    int huge; // the samples are a list of about 2^32 zeros
-};
-
-// The lists of one call as they are lent.
-struct lists {
-    struct lent file, reading, comps, samples, records, planes, answer;
-};
-
-static struct lists lend_all(const struct request *q, enum side side)
-{
-    const struct model_picture *p = &q->p;
-    struct lists l = {0};
-    l.file = lend(FILE_LIST, side, 1, p->file.bytes, p->file.length);
-    l.reading = lend(READING_LIST, side, sizeof(uint64_t), q->reading, q->reading_len * sizeof(uint64_t));
-    l.comps = lend(COMPS_LIST, side, sizeof(uint32_t), p->comps, p->comps_len * sizeof(uint32_t));
-    if (!q->huge)
-        l.samples = lend(SAMPLES_LIST, side, sizeof(int32_t), p->samples, p->samples_len * sizeof(int32_t));
-    l.records = lend_blank(RECORDS_LIST, side, sizeof(uint32_t), p->records_len * sizeof(uint32_t));
-    l.planes = lend_blank(PLANES_LIST, side, sizeof(int32_t), p->planes_len * sizeof(int32_t));
-    l.answer = lend_blank(ANSWER_LIST, side, sizeof(uint64_t), q->answer_len * sizeof(uint64_t));
-    return l;
-}
-
-static uint32_t call_entry(const struct request *q, const struct lists *l, int alone)
-{
-    const struct model_picture *p = &q->p;
-    struct words w = {0};
-    add_list(&w, l->file.list, p->file.length);
-    if (alone)
-        add_list(&w, l->reading.list, q->reading_len);
-    add_u32(&w, p->ignore);
-    add_list(&w, l->comps.list, p->comps_len);
-    add_u32(&w, p->count);
-    add_list(&w, q->huge ? (const void *)p->samples : l->samples.list, p->samples_len);
-    add_list(&w, l->records.list, p->records_len);
-    add_list(&w, l->planes.list, p->planes_len);
-    add_list(&w, l->answer.list, q->answer_len);
-    return call(alone ? (void *)cuzhantir_finish : (void *)cuzhantir_picture, &w);
-}
 
 // Every finished plane lies in the part of the destination that was written, and the planes take up all of it.
 static void check_planes(const struct lists *l, uint64_t planes, uint64_t written)
@@ -135,14 +89,15 @@ static void check_untouched(const struct request *q)
     }
 }
 
-static void note_finished(const struct model_finished *m)
+static void note_finished(const struct request *q, const struct model_finished *m)
 {
-    reached(200, m->answer[ANSWER_NUMBER] * 64 + magnitude(m->answer[ANSWER_PLACE]));
+    uint64_t second = q->p.edition2 != 0;
+    reached(200, (second * 64 + m->answer[ANSWER_NUMBER]) * 64 + magnitude(m->answer[ANSWER_PLACE]));
     reached(201, magnitude(m->answer[ANSWER_COUNT]) * 64 + magnitude(m->plane_samples));
     uint64_t order = 0;
     for (uint64_t i = 0; i < m->answer[ANSWER_COUNT] && i < 6; i++)
         order = order * 31 + m->records[i * COMPONENT_NUMBERS + DATA] % 29 + m->records[i * COMPONENT_NUMBERS + ALPHA] % 3;
-    reached(202, order % 512);
+    reached(202, second * 512 + order % 512);
     reached(204, m->answer[ANSWER_COUNT] < 16 ? m->answer[ANSWER_COUNT] : 16);
 }
 
@@ -202,11 +157,18 @@ static void corrupt(struct input *in, uint64_t *reading, unsigned times)
     }
 }
 
+// Numbers for the two flags. Of the edition every bit may be the only one that is set.
 static const uint32_t IGNORES[8] = {0, 0, 0, 0, 1, 2, 0x80000000u, 0x100};
+#define SINGLE_BITS 128
+static uint32_t pick_edition(uint8_t choice)
+{
+    static const uint32_t EDITIONS[4] = {0, 1, 0, UINT32_MAX};
+    return choice < SINGLE_BITS ? EDITIONS[choice % 4] : UINT32_C(1) << choice % 32;
+}
 
 // The first numbers of an input. With zeros nothing is wrong with a picture.
 struct choices {
-    uint8_t form, ignore, corruptions, distinct, comps, samples, records, planes, answer, seed;
+    uint8_t form, ignore, edition, corruptions, distinct, comps, samples, records, planes, answer, seed;
     struct input count, file;
 };
 
@@ -215,6 +177,7 @@ static struct choices take_choices(struct input *in)
     struct choices c;
     c.form = take_u8(in);
     c.ignore = take_u8(in);
+    c.edition = take_u8(in);
     c.corruptions = take_u8(in) % 4;
     c.count = take_part(in, 2);
     c.distinct = take_u8(in);
@@ -264,6 +227,7 @@ static void read_file(struct request *q, const struct choices *c)
 static void make_picture(struct input *in, struct request *q, struct choices *c)
 {
     q->p.ignore = IGNORES[c->ignore % 8];
+    q->p.edition2 = pick_edition(c->edition);
     q->p.count = take_count(&c->count, (uint32_t)q->p.reading[NUMCOMPS]);
     uint32_t there = (uint32_t)least(q->p.count, MOST_COMPONENTS + 2);
     uint64_t taken = make_components(in, there, 1 + c->distinct % MOST_DISTINCT);
@@ -285,7 +249,7 @@ static void check_corrupted(struct request *q, struct input *in, unsigned times)
     model_finish(&q->p, &m);
     for (enum side side = 0; side < SIDES; side++)
         check_call(q, side, 1, &m);
-    note_finished(&m);
+    note_finished(q, &m);
     reached(203, m.answer[ANSWER_NUMBER]);
 }
 
@@ -317,7 +281,11 @@ void run_target(struct input in)
     model_finish(&q.p, &m);
     for (enum side side = 0; side < SIDES; side++)
         check_both(&q, side, &m);
-    note_finished(&m);
+    note_finished(&q, &m);
+    if (q.answer_len >= ANSWER_NUMBERS) {
+        check_editions(&q, c.seed & 1);
+        check_order(&q, c.seed >> 1 & 1, c.seed * 2654435761u);
+    }
     if (refused_for_good(&bare))
         check_untouched(&q);
     else if (bare.needed_samples <= MODEL_SAMPLES && q.answer_len >= ANSWER_NUMBERS)

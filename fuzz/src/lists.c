@@ -154,7 +154,7 @@ void check_holds(const struct lent *l, const void *content, size_t bytes, const 
     if (bytes > l->bytes)
         finding("%s: %zu bytes are told of, in a list of %zu", name, bytes, l->bytes);
     if (bytes > 0 && memcmp(l->own, content, bytes) != 0)
-        finding("%s: not the content that document 01 asks for", name);
+        finding("%s: not the content that is asked for", name);
     check_pattern(l->own + bytes, l->own + l->bytes, l->own, name);
     check_around(l, name);
 }

@@ -1,5 +1,6 @@
 // What document 01 asks for, in plain C. It is written from the definitions (crates/*/specs) and shares no code with the
-// port, so a difference between them is a fault of the compiler, of the boundary or of the model.
+// port, so a difference between them is a fault of the compiler, of the boundary or of the model. Edition 2 of finishing is
+// written from the words of request R-2 alone, so there it may be a fault of the definitions too.
 #ifndef MODEL_H
 #define MODEL_H
 
@@ -20,6 +21,7 @@ struct model_picture {
     struct model_file file;
     uint64_t reading[READING_NUMBERS];
     uint32_t ignore;
+    uint32_t edition2; // 0 is edition 1, any other number edition 2
     const uint32_t *comps;
     uint64_t comps_len;
     uint32_t count;

@@ -1,4 +1,4 @@
-// Finishing: document 01, "Colour, palette, order" and the numbers 25 to 30.
+// Finishing: document 01, "Colour, palette, order" and the numbers 25 to 30; and request R-2, edition 2.
 #include "model.h"
 #include "finding.h"
 
@@ -128,7 +128,7 @@ static int64_t first_misnamed(const struct colouring *k)
     return -1;
 }
 
-// 26: the lowest channel from 1 up that no definition names.
+// 26: the lowest channel that no definition names, from 1 up. "It also wants channel 0 defined", R-2 says of edition 2.
 static int64_t first_undefined(const struct colouring *k)
 {
     static uint8_t named[65536];
@@ -137,7 +137,7 @@ static int64_t first_undefined(const struct colouring *k)
     memset(named, 0, sizeof named);
     for (uint64_t j = 0; j < k->definitions; j++)
         named[channel_of(k, j)] = 1;
-    for (uint64_t c = 1; c < channels(k); c++)
+    for (uint64_t c = k->p->edition2 != 0 ? 0 : 1; c < channels(k); c++)
         if (!named[c])
             return (int64_t)c;
     return -1;
@@ -255,12 +255,33 @@ static void exchange(uint64_t p, uint64_t q)
     seat[b] = (uint32_t)p;
 }
 
+static void mark(uint64_t position, uint64_t typ)
+{
+    records[position * COMPONENT_NUMBERS + ALPHA] = (uint32_t)typ;
+}
+
+// In edition 1 the mark goes to the position that the channel had.
 static void define(const struct colouring *k, uint64_t j)
 {
     uint64_t p = seat[channel_of(k, j)], typ = typ_of(k, j), asoc = asoc_of(k, j);
     if (typ == 0 && asoc != 0 && asoc != 65535)
         exchange(p, asoc - 1);
-    records[p * COMPONENT_NUMBERS + ALPHA] = (uint32_t)typ;
+    if (k->p->edition2 == 0)
+        mark(p, typ);
+}
+
+// Edition 2, once all records have moved: "each plane the mark from its own channel's definition", and "a channel defined
+// twice takes its last definition's typ". So from the last definition to the first, each channel is marked once.
+static void mark_own_channels(const struct colouring *k)
+{
+    static uint8_t marked[MOST_COMPONENTS];
+    memset(marked, 0, sizeof marked);
+    for (uint64_t j = k->definitions; j > 0; j--) {
+        uint64_t c = channel_of(k, j - 1);
+        if (!marked[c])
+            mark(seat[c], typ_of(k, j - 1));
+        marked[c] = 1;
+    }
 }
 
 static void reorder(const struct colouring *k)
@@ -269,6 +290,8 @@ static void reorder(const struct colouring *k)
         seat[c] = holder[c] = c;
     for (uint64_t j = 0; j < k->definitions; j++)
         define(k, j);
+    if (k->p->edition2 != 0)
+        mark_own_channels(k);
 }
 
 static void decline(struct model_finished *out, uint64_t number, uint64_t place)

@@ -7,9 +7,12 @@
 
 #include <string.h>
 
-// The type of the ignore flag; where the upper half of its word is taken too it is another.
+// The types of the two flags; where the upper half of a flag's word is taken too its type is another.
 #ifndef FLAG
 #define FLAG uint32_t
+#endif
+#ifndef EDITION
+#define EDITION uint32_t
 #endif
 
 #define READ_PARAMETERS const uint8_t *file, size_t file_len, uint64_t *reading, size_t reading_len
@@ -17,13 +20,15 @@
                            uint32_t *records, size_t records_len, int32_t *planes, size_t planes_len, \
                            uint64_t *answer, size_t answer_len
 #define PICTURE_WORDS comps, comps_len, count, samples, samples_len, records, records_len, planes, planes_len, answer, answer_len
+#define PICTURE_WITHOUT_ROOM comps, comps_len, count, samples, samples_len, NULL, 0, NULL, 0, answer, answer_len
 #define WRITE_PARAMETERS const uint32_t *comps, size_t comps_len, uint32_t count, uint32_t x0, uint32_t y0, uint32_t x1, uint32_t y1, \
                          uint32_t space, const uint8_t *profile, size_t profile_len, uint64_t codestream, \
                          uint8_t *d, size_t d_len, uint64_t *answer, size_t answer_len
 
 uint32_t right_cuzhantir_read(READ_PARAMETERS);
-uint32_t right_cuzhantir_finish(const uint8_t *file, size_t file_len, const uint64_t *reading, size_t reading_len, uint32_t ignore, PICTURE_PARAMETERS);
-uint32_t right_cuzhantir_picture(const uint8_t *file, size_t file_len, uint32_t ignore, PICTURE_PARAMETERS);
+uint32_t right_cuzhantir_finish(const uint8_t *file, size_t file_len, const uint64_t *reading, size_t reading_len, uint32_t ignore, uint32_t edition2,
+                                PICTURE_PARAMETERS);
+uint32_t right_cuzhantir_picture(const uint8_t *file, size_t file_len, uint32_t ignore, uint32_t edition2, PICTURE_PARAMETERS);
 uint32_t right_cuzhantir_write(WRITE_PARAMETERS);
 
 // The list of what is wrong; fuzz/self-check has the same names.
@@ -33,6 +38,9 @@ enum {
     CUT_REFUSED_BY_CONTENT, CUT_CODESTREAM_LOST,
     RECORD_ON_REFUSAL, SAMPLE_BEHIND, PLANES_EXCHANGED, NEEDED_LESS, FLAG_FORGOTTEN, READING_TRUSTED, UPPER_HALF, SAMPLE_LENT_CHANGED,
     LAST_SAMPLE, SAMPLE_PAST_END, MARK_KEPT, FIVE_PLANES,
+    OLD_PLACE_IN_2, OWN_CHANNEL_IN_1, EDITIONS_TURNED, CHANNEL_0_LEFT_OUT, CHANNEL_0_IN_1, CHANNEL_0_LATE, FIRST_DEFINITION,
+    IGNORE_FOR_EDITION, FLAGS_EXCHANGED, EDITION_FORGOTTEN, EDITION_2_BY_1_ALONE, EDITION_UPPER_HALF, ORDER_LOSES_MARK, ORDER_REFUSED,
+    OTHER_EDITION_MOVES,
     BYTE_PAST_END, BYTE_ON_REFUSAL, DEPTH_CHANGED, BYTES_NEEDED_LESS, INVENTED_WRITING, DIRECTION_LEFT, SIX_COMPONENTS
 };
 
@@ -87,6 +95,35 @@ static uint32_t spoil_reading(uint32_t returned, uint64_t *reading, size_t readi
     return returned;
 }
 
+// What the rules without a model are to find shows in their own calls alone: those after the first of a picture in which the file
+// has other bytes with the same sum, as with definitions in another order, or the same bytes and the edition is the other.
+enum { FIRST_CALL, SAME_CALL, OTHER_ORDER, OTHER_EDITION };
+static struct {
+    int known, second;
+    uint64_t sum, hash;
+} seen;
+
+static int kind_of_call(const uint8_t *file, size_t file_len, uint32_t edition2)
+{
+    uint64_t sum = 0, hash = file_len;
+    if (WRONG != ORDER_LOSES_MARK && WRONG != ORDER_REFUSED && WRONG != OTHER_EDITION_MOVES)
+        return SAME_CALL;
+    for (size_t i = 0; i < file_len; i++) {
+        sum += file[i];
+        hash = (hash ^ file[i]) * UINT64_C(1099511628211);
+    }
+    if (!seen.known) {
+        seen.known = 1;
+        seen.second = edition2 != 0;
+        seen.sum = sum;
+        seen.hash = hash;
+        return FIRST_CALL;
+    }
+    if (seen.hash != hash)
+        return seen.sum == sum ? OTHER_ORDER : SAME_CALL;
+    return seen.second == (edition2 != 0) ? SAME_CALL : OTHER_EDITION;
+}
+
 // A beginning of the file of the call before, which reached its codestream: refused by a content, or ended behind the header.
 static uint32_t spoil_beginning(uint32_t returned, READ_PARAMETERS)
 {
@@ -115,6 +152,7 @@ __attribute__((naked)) uint32_t cuzhantir_read(READ_PARAMETERS)
 #else
 uint32_t cuzhantir_read(READ_PARAMETERS)
 {
+    seen.known = 0; // each picture is read first
     if (WRONG != REMEMBERS)
         spoil_call(file, file_len, reading, reading_len);
     uint32_t r = spoil_reading(right_cuzhantir_read(file, file_len, reading, reading_len), reading, reading_len);
@@ -171,23 +209,147 @@ static uint32_t spoil_picture(uint32_t returned, uint32_t *records, size_t recor
     return returned;
 }
 
-// The wrong one takes the whole word of the flag, where 32 bits count.
-uint32_t cuzhantir_picture(const uint8_t *file, size_t file_len, FLAG ignore, PICTURE_PARAMETERS)
+#define FINISH_PARAMETERS const uint8_t *file, size_t file_len, const uint64_t *reading, size_t reading_len, uint32_t ignore
+#define FINISH_WORDS file, file_len, reading, reading_len, ignore
+
+// Finishing with a reading, or in one step where there is none.
+static uint32_t right(FINISH_PARAMETERS, uint32_t edition2, PICTURE_PARAMETERS)
 {
-    uint32_t r = right_cuzhantir_picture(file, file_len, ignore != 0, PICTURE_WORDS);
-    if (WRONG == SAMPLE_LENT_CHANGED && samples_len > 0)
-        ((int32_t *)samples)[samples_len - 1] = 0;
+    if (reading == NULL)
+        return right_cuzhantir_picture(file, file_len, ignore, edition2, PICTURE_WORDS);
+    return right_cuzhantir_finish(FINISH_WORDS, edition2, PICTURE_WORDS);
+}
+
+// Where the record of each channel is once all definitions have moved theirs, and whose record is where.
+static uint16_t place_of[MOST_COMPONENTS], channel_at[MOST_COMPONENTS];
+
+static void follow_moves(const uint8_t *file, size_t file_len, const uint64_t *reading, uint64_t channels)
+{
+    struct cuzhantir_definition d;
+    for (uint64_t c = 0; c < channels; c++)
+        place_of[c] = channel_at[c] = (uint16_t)c;
+    for (uint64_t n = 0; cuzhantir_definition_at(file, file_len, reading, n, &d); n++) {
+        if (d.typ != 0 || d.asoc == 0 || d.asoc == 65535)
+            continue;
+        uint16_t from = place_of[d.channel], to = (uint16_t)(d.asoc - 1), moved = channel_at[to];
+        place_of[d.channel] = to;
+        place_of[moved] = from;
+        channel_at[to] = (uint16_t)d.channel;
+        channel_at[from] = moved;
+    }
+}
+
+static void mark_by_first_definition(const uint8_t *file, size_t file_len, uint32_t *records, uint64_t channels)
+{
+    uint64_t reading[READING_NUMBERS];
+    struct cuzhantir_definition d;
+    right_cuzhantir_read(file, file_len, reading, READING_NUMBERS);
+    follow_moves(file, file_len, reading, channels);
+    for (uint64_t n = reading[CDEF_COUNT]; n > 0; n--) {
+        cuzhantir_definition_at(file, file_len, reading, n - 1, &d);
+        records[(size_t)place_of[d.channel] * COMPONENT_NUMBERS + ALPHA] = d.typ;
+    }
+}
+
+static int refused_for_channel_0(const uint64_t *answer)
+{
+    return answer[ANSWER_KIND] == 1 && answer[ANSWER_NUMBER] == 26 && answer[ANSWER_PLACE] == 0;
+}
+
+// Edition 1, with one thing of edition 2.
+static uint32_t wrong_first(FINISH_PARAMETERS, PICTURE_PARAMETERS)
+{
+    if (WRONG == CHANNEL_0_IN_1) {
+        uint32_t second = right(FINISH_WORDS, 1, PICTURE_WITHOUT_ROOM);
+        if (refused_for_channel_0(answer))
+            return second;
+    }
+    if (WRONG == OWN_CHANNEL_IN_1) {
+        right(FINISH_WORDS, 1, PICTURE_WITHOUT_ROOM);
+        if (!refused_for_channel_0(answer))
+            return right(FINISH_WORDS, 1, PICTURE_WORDS);
+    }
+    return right(FINISH_WORDS, 0, PICTURE_WORDS);
+}
+
+// Edition 2, with one thing of edition 1, or one that is its own done wrong.
+static uint32_t wrong_second(FINISH_PARAMETERS, uint32_t edition2, PICTURE_PARAMETERS)
+{
+    uint32_t r = right(FINISH_WORDS, edition2, PICTURE_WORDS);
+    if (WRONG == OLD_PLACE_IN_2 && r == 0)
+        return right(FINISH_WORDS, 0, PICTURE_WORDS);
+    if (WRONG == CHANNEL_0_LEFT_OUT && refused_for_channel_0(answer))
+        return right(FINISH_WORDS, 0, PICTURE_WORDS);
+    if (WRONG == CHANNEL_0_LATE && refused_for_channel_0(answer)) {
+        uint32_t first = right(FINISH_WORDS, 0, PICTURE_WITHOUT_ROOM);
+        return first == 27 || first == 28 ? first : right(FINISH_WORDS, edition2, PICTURE_WORDS);
+    }
+    if (WRONG == FIRST_DEFINITION && r == 0 && ignore == 0)
+        mark_by_first_definition(file, file_len, records, answer[ANSWER_COUNT]);
+    return r;
+}
+
+static uint32_t wrong_flags(FINISH_PARAMETERS, uint32_t edition2, PICTURE_PARAMETERS)
+{
+    if (WRONG == EDITIONS_TURNED)
+        edition2 = edition2 == 0;
+    if (WRONG == EDITION_2_BY_1_ALONE)
+        edition2 = edition2 == 1;
+    if (WRONG == FLAGS_EXCHANGED)
+        return right(file, file_len, reading, reading_len, edition2, ignore, PICTURE_WORDS);
+    if (answer_len < ANSWER_NUMBERS)
+        return right(FINISH_WORDS, edition2, PICTURE_WORDS);
+    if (edition2 == 0)
+        return wrong_first(FINISH_WORDS, PICTURE_WORDS);
+    return wrong_second(FINISH_WORDS, edition2, PICTURE_WORDS);
+}
+
+static uint32_t spoil_rule(int kind, uint32_t returned, uint32_t edition2, uint32_t *records, uint64_t *answer)
+{
+    uint64_t n = answer[ANSWER_COUNT];
+    if (WRONG == ORDER_LOSES_MARK && kind == OTHER_ORDER && edition2 != 0 && n > 0)
+        records[ALPHA] ^= 1;
+    if (WRONG == ORDER_REFUSED && kind == OTHER_ORDER && returned == 0) {
+        answer[ANSWER_KIND] = 1;
+        answer[ANSWER_NUMBER] = returned = 26;
+        answer[ANSWER_COUNT] = 0;
+    }
+    if (WRONG == OTHER_EDITION_MOVES && kind == OTHER_EDITION && n > 1)
+        exchange(records, records + COMPONENT_NUMBERS);
+    return returned;
+}
+
+static uint32_t wrong_finish(FINISH_PARAMETERS, uint32_t edition2, PICTURE_PARAMETERS)
+{
+    int kind = kind_of_call(file, file_len, edition2);
+    uint32_t r = wrong_flags(FINISH_WORDS, edition2, PICTURE_WORDS);
+    if (answer_len < ANSWER_NUMBERS)
+        return r;
+    r = spoil_rule(kind, r, edition2, records, answer);
     return spoil_picture(r, records, records_len, planes, planes_len, answer, answer_len);
 }
 
-uint32_t cuzhantir_finish(const uint8_t *file, size_t file_len, const uint64_t *reading, size_t reading_len, uint32_t ignore, PICTURE_PARAMETERS)
+// The wrong one takes the whole word of a flag, where 32 bits count.
+uint32_t cuzhantir_picture(const uint8_t *file, size_t file_len, FLAG ignore, EDITION edition2, PICTURE_PARAMETERS)
+{
+    uint32_t picked = WRONG == EDITION_UPPER_HALF ? edition2 != 0 : (uint32_t)edition2;
+    if (WRONG == IGNORE_FOR_EDITION)
+        picked = (uint32_t)ignore;
+    uint32_t r = wrong_finish(file, file_len, NULL, 0, ignore != 0, picked, PICTURE_WORDS);
+    if (WRONG == SAMPLE_LENT_CHANGED && samples_len > 0)
+        ((int32_t *)samples)[samples_len - 1] = 0;
+    return r;
+}
+
+uint32_t cuzhantir_finish(FINISH_PARAMETERS, uint32_t edition2, PICTURE_PARAMETERS)
 {
     if (WRONG == READING_TRUSTED && reading_len >= READING_NUMBERS && reading[CDEF_COUNT] != 0)
         sink = ((const volatile uint8_t *)file)[reading[CDEF_PLACE]];
     if (WRONG == FLAG_FORGOTTEN)
         ignore = 0;
-    uint32_t r = right_cuzhantir_finish(file, file_len, reading, reading_len, ignore, PICTURE_WORDS);
-    return spoil_picture(r, records, records_len, planes, planes_len, answer, answer_len);
+    if (WRONG == EDITION_FORGOTTEN)
+        edition2 = 0;
+    return wrong_finish(FINISH_WORDS, edition2, PICTURE_WORDS);
 }
 
 static uint32_t spoil_writing(uint32_t returned, uint8_t *d, size_t d_len, uint64_t *answer)
