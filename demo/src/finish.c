@@ -68,10 +68,10 @@ void free_components(struct components *c)
   free(c->samples);
 }
 
-static void ask(struct bytes file, const uint64_t *reading, uint32_t ignore, const struct components *c,
+static void ask(struct bytes file, const uint64_t *reading, struct flags flags, const struct components *c,
                 struct finished *f)
 {
-  cuzhantir_finish(file.data, file.len, reading, CUZHANTIR_READING_LENGTH, ignore, c->numbers,
+  cuzhantir_finish(file.data, file.len, reading, CUZHANTIR_READING_LENGTH, flags.ignore, flags.edition2, c->numbers,
                    (size_t)c->count * CUZHANTIR_COMPONENT_LENGTH, c->count, c->samples, c->samples_len, f->records,
                    f->records_len, f->planes, f->planes_len, f->answer, CUZHANTIR_ANSWER_LENGTH);
 }
@@ -82,21 +82,21 @@ static bool too_short(const struct finished *f)
 }
 
 // The library takes no memory. It says how long a destination has to be, records first, and changes nothing until both are.
-struct finished finish_picture(struct bytes file, const uint64_t *reading, uint32_t ignore, const struct components *c)
+struct finished finish_picture(struct bytes file, const uint64_t *reading, struct flags flags, const struct components *c)
 {
   struct finished f = {.records = need(0, sizeof *f.records), .planes = need(0, sizeof *f.planes)};
-  ask(file, reading, ignore, c, &f);
+  ask(file, reading, flags, c, &f);
   if (too_short(&f)) {
     f.records_len = f.answer[CUZHANTIR_ANSWER_PLACE];
     free(f.records);
     f.records = need(f.records_len, sizeof *f.records);
-    ask(file, reading, ignore, c, &f);
+    ask(file, reading, flags, c, &f);
   }
   if (too_short(&f)) {
     f.planes_len = f.answer[CUZHANTIR_ANSWER_PLACE];
     free(f.planes);
     f.planes = need(f.planes_len, sizeof *f.planes);
-    ask(file, reading, ignore, c, &f);
+    ask(file, reading, flags, c, &f);
   }
   return f;
 }

@@ -30,8 +30,14 @@ struct components components_of(const opj_image_t *image);
 
 void free_components(struct components *c);
 
+// The two flags of finishing, as the library takes them.
+struct flags {
+  uint32_t ignore;
+  uint32_t edition2;
+};
+
 // reading is what the library gave for the file.
-struct finished finish_picture(struct bytes file, const uint64_t *reading, uint32_t ignore, const struct components *c);
+struct finished finish_picture(struct bytes file, const uint64_t *reading, struct flags flags, const struct components *c);
 
 void free_finished(struct finished *f);
 

@@ -6,23 +6,29 @@
 #include "picture.h"
 
 static const char help[] =
-    "demo [--out FOLDER] [--verdicts FILE] [--quiet] [--wrong WORD] FILE.jp2 ...\n"
+    "demo [--edition N] [--out FOLDER] [--verdicts FILE] [--records FILE] [--quiet] [--wrong WORD] FILE.jp2 ...\n"
     "\n"
     "Decodes the codestream of each file with OpenJPEG, has its planes put in colour order by the library, and compares\n"
     "them with those that OpenJPEG makes of the whole file.\n"
     "\n"
-    "  --out FOLDER      writes a PGM for each plane, and a PPM where planes 0 to 2 are red, green and blue\n"
+    "  --edition N       the edition of the rules by which planes are finished, 1 or 2; 1 where none is named. OpenJPEG's\n"
+    "                    marks are edition 1's. In edition 2 marks are compared with the file's definitions, and all else\n"
+    "                    with OpenJPEG's\n"
+    "  --out FOLDER      writes a PGM for each plane, and two PPM where planes 0 to 2 are red, green and blue: these three,\n"
+    "                    and what a viewer that goes by the marks shows on white\n"
     "  --verdicts FILE   writes a line a picture: its name, a tab, the verdict\n"
+    "  --records FILE    writes a line a finished plane: its picture's name, its number and the 13 numbers of its record\n"
     "  --quiet           says nothing of pictures that agree\n"
     "  --wrong WORD      makes our result wrong, so that a difference has to be found: ignore (boxes of colour ignored),\n"
-    "                    offset (codestream taken a byte late), swap (first and last plane exchanged), sample, mark,\n"
-    "                    precision (of the last plane)\n"
+    "                    edition (finished by the other one), offset (codestream taken a byte late), swap (first and last\n"
+    "                    plane exchanged), sample, mark, precision (of the last plane)\n"
     "\n"
     "Exit status: 0 all agree, or differ as known; 1 one differs; 2 something could not be read, written or understood.\n";
 
 struct run {
   struct options options;
   const char *verdicts;
+  const char *records;
   int first; // of the files among the arguments
 };
 
@@ -30,6 +36,12 @@ static int misused(const char *what)
 {
   fprintf(stderr, "demo: %s\n%s", what, help);
   return 2;
+}
+
+static bool edition_by_name(const char *word, uint32_t *edition2)
+{
+  *edition2 = strcmp(word, "1") == 0 ? CUZHANTIR_EDITION_1 : CUZHANTIR_EDITION_2;
+  return strcmp(word, "1") == 0 || strcmp(word, "2") == 0;
 }
 
 // One option and its word, if it has one: how many arguments were taken, 0 where it is no option.
@@ -50,6 +62,13 @@ static int take_option(struct run *r, char **argv)
     r->verdicts = argv[1];
     return 2;
   }
+  if (strcmp(argv[0], "--records") == 0) {
+    r->records = argv[1];
+    return 2;
+  }
+  if (strcmp(argv[0], "--edition") == 0) {
+    return edition_by_name(argv[1], &r->options.edition2) ? 2 : 0;
+  }
   return strcmp(argv[0], "--wrong") == 0 && wrong_by_name(argv[1], &r->options.wrong) ? 2 : 0;
 }
 
@@ -64,6 +83,17 @@ static bool take_options(struct run *r, int argc, char **argv)
     r->first += taken;
   }
   return true;
+}
+
+// A file to write to; true where none is named.
+static bool open_named(const char *path, FILE **to)
+{
+  return path == NULL || (*to = fopen(path, "w")) != NULL;
+}
+
+static bool close_named(FILE *to)
+{
+  return to == NULL || fclose(to) == 0;
 }
 
 static void summarise(const unsigned *counts, int pictures)
@@ -90,20 +120,18 @@ static int show_all(struct run *r, int argc, char **argv, FILE *verdicts)
 
 int main(int argc, char **argv)
 {
-  struct run r = {.options = {NULL, false, WRONG_NOTHING}};
+  struct run r = {.options = {.edition2 = CUZHANTIR_EDITION_1, .wrong = WRONG_NOTHING}};
   if (!take_options(&r, argc, argv)) {
-    return misused("no such option, or its word is missing");
+    return misused("no such option, or its word is missing or another");
   }
   if (r.first == argc) {
     return misused("no file named");
   }
   FILE *verdicts = NULL;
-  if (r.verdicts != NULL && (verdicts = fopen(r.verdicts, "w")) == NULL) {
-    return misused("the file of verdicts cannot be written");
+  if (!open_named(r.verdicts, &verdicts) || !open_named(r.records, &r.options.records)) {
+    return misused("the file of verdicts or of records cannot be written");
   }
   int status = show_all(&r, argc, argv, verdicts);
-  if (verdicts != NULL && fclose(verdicts) != 0) {
-    return 2;
-  }
-  return status;
+  bool closed = close_named(verdicts);
+  return close_named(r.options.records) && closed ? status : 2;
 }

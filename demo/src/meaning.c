@@ -24,11 +24,11 @@ static uint32_t channel_of(const struct finished *f, uint32_t plane)
   return before;
 }
 
-// The file's first definition of a channel: 6 bytes each, channel, typ, asoc.
+// The file's last definition of a channel: 6 bytes each, channel, typ, asoc. False where there is none.
 static bool definition_of(struct bytes file, const uint64_t *reading, uint32_t channel, struct definition *d)
 {
-  for (uint64_t i = 0; i < reading[CUZHANTIR_READING_CDEF_COUNT]; i++) {
-    uint64_t place = reading[CUZHANTIR_READING_CDEF_PLACE] + 6 * i;
+  for (uint64_t i = reading[CUZHANTIR_READING_CDEF_COUNT]; i > 0; i--) {
+    uint64_t place = reading[CUZHANTIR_READING_CDEF_PLACE] + 6 * (i - 1);
     if (two_bytes(file, place) == channel) {
       d->typ = two_bytes(file, place + 2);
       d->asoc = two_bytes(file, place + 4);
@@ -127,19 +127,10 @@ struct meaning meaning_of(struct bytes file, const uint64_t *reading, const stru
     name_by_place(reading, plane, &m);
   } else if (m.channel != NO_CHANNEL && definition_of(file, reading, m.channel, &d)) {
     name_by_definition(reading, d, &m);
+    m.mark = d.typ;
   } else {
     m.sense = SENSE_OTHER;
     snprintf(m.name, sizeof m.name, "undefined");
   }
   return m;
-}
-
-uint32_t mark_of(const struct meaning *m)
-{
-  switch (m->sense) {
-  case SENSE_OPACITY: return 1;
-  case SENSE_PREMULTIPLIED: return 2;
-  case SENSE_UNSPECIFIED: return 65535;
-  default: return 0;
-  }
 }

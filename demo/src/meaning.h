@@ -12,6 +12,7 @@ struct meaning {
   enum sense sense;
   uint32_t colour;  // the number of the colour, from 1; of opacity, the colour that it belongs to, 0 for the whole picture
   uint32_t channel; // where its samples come from
+  uint32_t mark;    // the typ of its channel's last definition, which is the plane's mark in edition 2; 0 where there is none
   char name[40];    // for file names
 };
 
@@ -19,8 +20,5 @@ struct meaning meaning_of(struct bytes file, const uint64_t *reading, const stru
 
 // Colours that the boxes call sRGB.
 bool is_rgb(const uint64_t *reading);
-
-// The mark that a plane of this meaning has by Annex I.
-uint32_t mark_of(const struct meaning *m);
 
 #endif

@@ -3,7 +3,7 @@
 #include <inttypes.h>
 #include <stdio.h>
 
-enum { MOST_BITS = 32, NETPBM_BITS = 16 };
+enum { MOST_BITS = 32, NETPBM_BITS = 16, COLOURS = 3, MARK_OPACITY = 1, MARK_PREMULTIPLIED = 2 };
 
 static uint64_t highest(uint32_t prec)
 {
@@ -42,12 +42,35 @@ static void put_level(FILE *to, uint32_t level, uint32_t prec)
   putc((int)(level & 255), to);
 }
 
-static void put_sample(FILE *to, const struct finished *f, uint32_t plane, uint64_t i, struct written *w)
+static uint32_t level_at(const struct finished *f, uint32_t plane, uint64_t i, struct written *w)
 {
   uint32_t prec = plane_number(f, plane, CUZHANTIR_COMPONENT_PREC);
   bool sgnd = plane_number(f, plane, CUZHANTIR_COMPONENT_SGND) != 0;
-  int64_t level = level_of(plane_samples(f, plane)[i], prec, sgnd);
-  put_level(to, clamped_level(level, prec, w), prec);
+  return clamped_level(level_of(plane_samples(f, plane)[i], prec, sgnd), prec, w);
+}
+
+static uint64_t highest_written(const struct finished *f, uint32_t plane)
+{
+  return highest(bits_written(plane_number(f, plane, CUZHANTIR_COMPONENT_PREC)));
+}
+
+// What is seen of a colour's level on white. A colour with its opacity multiplied in is a share already.
+static uint32_t on_white(const struct finished *f, uint32_t plane, uint32_t opacity, uint64_t i, uint32_t level)
+{
+  struct written ignored = {0};
+  uint64_t top = highest_written(f, plane), whole = highest_written(f, opacity), share = level_at(f, opacity, i, &ignored);
+  bool multiplied = plane_number(f, opacity, CUZHANTIR_COMPONENT_ALPHA) == MARK_PREMULTIPLIED;
+  uint64_t seen = (multiplied ? level : level * share / whole) + top * (whole - share) / whole;
+  return (uint32_t)(seen > top ? top : seen);
+}
+
+static void put_sample(FILE *to, const struct finished *f, uint32_t plane, uint32_t opacity, uint64_t i, struct written *w)
+{
+  uint32_t level = level_at(f, plane, i, w);
+  if (opacity != NO_PLANE) {
+    level = on_white(f, plane, opacity, i, level);
+  }
+  put_level(to, level, plane_number(f, plane, CUZHANTIR_COMPONENT_PREC));
 }
 
 static int writable(const struct finished *f, uint32_t plane)
@@ -61,22 +84,22 @@ static int writable(const struct finished *f, uint32_t plane)
 
 static void put_header(FILE *to, const char *magic, const struct finished *f, uint32_t plane)
 {
-  uint32_t bits = bits_written(plane_number(f, plane, CUZHANTIR_COMPONENT_PREC));
   fprintf(to, "%s\n%" PRIu32 " %" PRIu32 "\n%" PRIu64 "\n", magic, plane_number(f, plane, CUZHANTIR_COMPONENT_W),
-          plane_number(f, plane, CUZHANTIR_COMPONENT_H), highest(bits));
+          plane_number(f, plane, CUZHANTIR_COMPONENT_H), highest_written(f, plane));
 }
 
-static void put_samples(FILE *to, const struct finished *f, uint32_t plane, uint32_t planes, struct written *w)
+static void put_samples(FILE *to, const struct finished *f, uint32_t plane, uint32_t planes, uint32_t opacity,
+                        struct written *w)
 {
   uint64_t all = plane_size(f, plane) * planes;
   for (uint64_t i = 0; i < all; i++) {
-    put_sample(to, f, plane + (uint32_t)(i % planes), i / planes, w);
+    put_sample(to, f, plane + (uint32_t)(i % planes), opacity, i / planes, w);
   }
 }
 
-// Planes from the given one on, side by side: 1 for PGM, 3 for PPM.
+// Planes from the given one on, side by side: 1 for PGM, 3 for PPM. With a plane of opacity they are seen on white.
 static struct written write_planes(const char *path, const char *magic, const struct finished *f, uint32_t plane,
-                                   uint32_t planes)
+                                   uint32_t planes, uint32_t opacity)
 {
   struct written w = {writable(f, plane), plane_number(f, plane, CUZHANTIR_COMPONENT_PREC) > NETPBM_BITS, 0};
   if (w.outcome != WRITTEN) {
@@ -88,7 +111,7 @@ static struct written write_planes(const char *path, const char *magic, const st
     return w;
   }
   put_header(to, magic, f, plane);
-  put_samples(to, f, plane, planes, &w);
+  put_samples(to, f, plane, planes, opacity, &w);
   bool failed = ferror(to) != 0;
   if (fclose(to) != 0 || failed) {
     w.outcome = NOT_WRITTEN_FILE;
@@ -98,24 +121,45 @@ static struct written write_planes(const char *path, const char *magic, const st
 
 struct written write_pgm(const char *path, const struct finished *f, uint32_t plane)
 {
-  return write_planes(path, "P5", f, plane, 1);
+  return write_planes(path, "P5", f, plane, 1, NO_PLANE);
 }
 
 struct written write_ppm(const char *path, const struct finished *f)
 {
-  return write_planes(path, "P6", f, 0, 3);
+  return write_planes(path, "P6", f, 0, COLOURS, NO_PLANE);
+}
+
+struct written write_on_white(const char *path, const struct finished *f, uint32_t opacity)
+{
+  return write_planes(path, "P6", f, 0, COLOURS, opacity);
+}
+
+static bool like_plane_0(const struct finished *f, uint32_t p)
+{
+  return writable(f, p) == WRITTEN && plane_number(f, p, CUZHANTIR_COMPONENT_W) == plane_number(f, 0, CUZHANTIR_COMPONENT_W) &&
+         plane_number(f, p, CUZHANTIR_COMPONENT_H) == plane_number(f, 0, CUZHANTIR_COMPONENT_H);
 }
 
 bool fit_together(const struct finished *f)
 {
-  if (planes_of(f) < 3) {
+  if (planes_of(f) < COLOURS) {
     return false;
   }
   bool fit = true;
-  for (uint32_t p = 0; p < 3; p++) {
-    fit = fit && writable(f, p) == WRITTEN && plane_number(f, p, CUZHANTIR_COMPONENT_W) == plane_number(f, 0, CUZHANTIR_COMPONENT_W) &&
-          plane_number(f, p, CUZHANTIR_COMPONENT_H) == plane_number(f, 0, CUZHANTIR_COMPONENT_H) &&
+  for (uint32_t p = 0; p < COLOURS; p++) {
+    fit = fit && like_plane_0(f, p) &&
           plane_number(f, p, CUZHANTIR_COMPONENT_PREC) == plane_number(f, 0, CUZHANTIR_COMPONENT_PREC);
   }
   return fit;
+}
+
+uint32_t marked_opacity(const struct finished *f)
+{
+  for (uint32_t p = COLOURS; p < planes_of(f); p++) {
+    uint32_t mark = plane_number(f, p, CUZHANTIR_COMPONENT_ALPHA);
+    if ((mark == MARK_OPACITY || mark == MARK_PREMULTIPLIED) && like_plane_0(f, p)) {
+      return p;
+    }
+  }
+  return NO_PLANE;
 }

@@ -42,7 +42,7 @@ static void stem_of(const char *name, char *stem, size_t len)
 static void head(struct work *w)
 {
   if (!w->headed) {
-    printf("%s\n", w->name);
+    printf("%s%s\n", w->name, w->options->edition2 == CUZHANTIR_EDITION_1 ? "" : ", edition 2");
     w->headed = true;
   }
 }
@@ -112,7 +112,7 @@ static void refused(struct work *w, uint64_t number, uint64_t place)
 static void judge_refusal(struct work *w, const opj_image_t *codestream, const char *message)
 {
   char word[64];
-  const struct known *k = known_refusal(w->file, w->reading, codestream, message);
+  const struct known *k = known_refusal(w->file, w->reading, w->options->edition2, codestream, message);
   head(w);
   if (k == NULL) {
     printf("  DIFFERS: finished here, OpenJPEG refuses: %s\n", message);
@@ -124,13 +124,17 @@ static void judge_refusal(struct work *w, const opj_image_t *codestream, const c
   judge(w, VERDICT_KNOWN, word);
 }
 
-// How far each plane is compared, and whether any is not compared whole.
-static bool set_limits(struct work *w, const struct finished *f, const struct components *c, uint64_t *limits)
+// What is compared of each plane, and whether any is not compared whole.
+static bool set_measures(struct work *w, const struct finished *f, const struct components *c, struct measure *measures)
 {
   bool some = false;
   for (uint32_t p = 0; p < planes_of(f); p++) {
-    limits[p] = samples_set(w->file, w->reading, c, meaning_of(w->file, w->reading, f, p).channel);
-    some = some || limits[p] != ALL_SAMPLES;
+    struct meaning m = meaning_of(w->file, w->reading, f, p);
+    measures[p].limit = samples_set(w->file, w->reading, c, m.channel);
+    measures[p].by_definition = w->options->edition2 != CUZHANTIR_EDITION_1;
+    // where nothing tells the channel, no definition is known, and the mark is not compared
+    measures[p].mark = m.channel == NO_CHANNEL ? plane_number(f, p, CUZHANTIR_COMPONENT_ALPHA) : m.mark;
+    some = some || measures[p].limit != ALL_SAMPLES;
   }
   return some;
 }
@@ -138,10 +142,10 @@ static bool set_limits(struct work *w, const struct finished *f, const struct co
 static void judge_planes(struct work *w, const struct finished *f, const struct components *c, const opj_image_t *theirs)
 {
   char word[64];
-  uint64_t *limits = need(planes_of(f), sizeof *limits);
-  bool some = set_limits(w, f, c, limits);
-  struct difference d = compare_planes(f, theirs, limits);
-  free(limits);
+  struct measure *measures = need(planes_of(f), sizeof *measures);
+  bool some = set_measures(w, f, c, measures);
+  struct difference d = compare_planes(f, theirs, measures);
+  free(measures);
   if (d.found || some || !w->options->quiet) {
     head(w);
   }
@@ -157,7 +161,8 @@ static void judge_planes(struct work *w, const struct finished *f, const struct 
     return;
   }
   if (!w->options->quiet) {
-    printf(planes_of(f) == 1 ? "  1 plane agrees\n" : "  %" PRIu32 " planes agree\n", planes_of(f));
+    printf(planes_of(f) == 1 ? "  1 plane agrees" : "  %" PRIu32 " planes agree", planes_of(f));
+    printf("%s\n", w->options->edition2 == CUZHANTIR_EDITION_1 ? "" : ", and marks are those of the definitions");
   }
   snprintf(word, sizeof word, "agree %" PRIu32, planes_of(f));
   judge(w, VERDICT_AGREE, word);
@@ -184,11 +189,33 @@ static void judge_finished(struct work *w, const struct finished *f, const struc
   free_decoded(&theirs);
 }
 
+static struct flags flags_of(const struct options *o)
+{
+  struct flags flags = {o->wrong == WRONG_IGNORE, o->edition2};
+  if (o->wrong == WRONG_EDITION) {
+    flags.edition2 = o->edition2 == CUZHANTIR_EDITION_1 ? CUZHANTIR_EDITION_2 : CUZHANTIR_EDITION_1;
+  }
+  return flags;
+}
+
+// A line a plane: the picture's name, the plane and the 13 numbers of its record.
+static void list_records(const struct work *w, const struct finished *f)
+{
+  for (uint32_t p = 0; w->options->records != NULL && p < planes_of(f); p++) {
+    fprintf(w->options->records, "%s\t%" PRIu32, w->name, p);
+    for (unsigned k = 0; k < CUZHANTIR_COMPONENT_LENGTH; k++) {
+      fprintf(w->options->records, "\t%" PRIu32, plane_number(f, p, k));
+    }
+    fputc('\n', w->options->records);
+  }
+}
+
 static void finish(struct work *w, const opj_image_t *codestream)
 {
   struct components c = components_of(codestream);
-  struct finished f = finish_picture(w->file, w->reading, w->options->wrong == WRONG_IGNORE, &c);
+  struct finished f = finish_picture(w->file, w->reading, flags_of(w->options), &c);
   make_wrong(w->options->wrong, &f);
+  list_records(w, &f);
   if (!is_finished(&f)) {
     refused(w, f.answer[CUZHANTIR_ANSWER_NUMBER], f.answer[CUZHANTIR_ANSWER_PLACE]);
   } else {

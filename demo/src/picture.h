@@ -2,6 +2,8 @@
 #ifndef DEMO_PICTURE_H
 #define DEMO_PICTURE_H
 
+#include <stdio.h>
+
 #include "wrong.h"
 
 enum verdict { VERDICT_AGREE, VERDICT_REFUSED, VERDICT_KNOWN, VERDICT_DIFFER, VERDICT_FAILED, VERDICTS };
@@ -9,6 +11,8 @@ enum verdict { VERDICT_AGREE, VERDICT_REFUSED, VERDICT_KNOWN, VERDICT_DIFFER, VE
 struct options {
   const char *folder; // where planes are written; NULL: they are not
   bool quiet;         // say nothing of pictures that agree
+  uint32_t edition2;  // enum cuzhantir_edition
+  FILE *records;      // where the records of finished planes are listed; NULL: they are not
   enum wrong wrong;
 };
 

@@ -8,7 +8,7 @@
 #include "meaning.h"
 #include "netpbm.h"
 
-enum { PATH_LEN = 4096 };
+enum { PATH_LEN = 4096, COLOURS = 3 };
 
 static bool told(const char *path, struct written w, bool quiet)
 {
@@ -50,9 +50,12 @@ static void describe(const struct finished *f, uint32_t p, const struct meaning 
   if (m->sense == SENSE_COLOUR && m->colour != p + 1) {
     printf(", though colour %" PRIu32 " belongs in plane %" PRIu32, m->colour, m->colour - 1);
   }
-  // A later swap may take the mark from the record that was marked before. The crate, OpenJPEG and document 01 agree on that.
-  if (plane_number(f, p, CUZHANTIR_COMPONENT_ALPHA) != mark_of(m)) {
-    printf(", its mark is %" PRIu32 " where its definition says %" PRIu32, plane_number(f, p, CUZHANTIR_COMPONENT_ALPHA), mark_of(m));
+  // In edition 1 a later swap may take the mark from the record that was marked before. The crate and OpenJPEG do so too.
+  uint32_t mark = plane_number(f, p, CUZHANTIR_COMPONENT_ALPHA);
+  if (mark != m->mark) {
+    printf(", its mark is %" PRIu32 " where its definition says %" PRIu32, mark, m->mark);
+  } else if (mark != 0) {
+    printf(", mark %" PRIu32, mark);
   }
 }
 
@@ -87,17 +90,38 @@ static bool show_colours(struct place to, bool quiet, const struct finished *f)
   return fine;
 }
 
+// The colours as a viewer shows them that goes by the marks.
+static bool show_on_white(struct place to, bool quiet, const struct finished *f)
+{
+  char path[PATH_LEN];
+  uint32_t opacity = marked_opacity(f);
+  snprintf(path, sizeof path, "%s/%s.on-white.ppm", to.folder, to.name);
+  if (!quiet && opacity == NO_PLANE) {
+    printf("  on white, with no plane marked as opacity");
+  } else if (!quiet) {
+    printf("  on white, with plane %" PRIu32 " marked as opacity", opacity);
+  }
+  bool fine = told(path, write_on_white(path, f, opacity), quiet);
+  if (!quiet) {
+    printf("\n");
+  }
+  return fine;
+}
+
 bool show_planes(struct place to, bool quiet, struct bytes file, const uint64_t *reading, const struct finished *f)
 {
   bool fine = true;
   bool colours = is_rgb(reading) && fit_together(f);
   for (uint32_t p = 0; p < planes_of(f); p++) {
     struct meaning m = meaning_of(file, reading, f, p);
-    colours = colours && (p >= 3 || (m.sense == SENSE_COLOUR && m.colour == p + 1));
+    colours = colours && (p >= COLOURS || (m.sense == SENSE_COLOUR && m.colour == p + 1));
     fine = show_plane(to, quiet, f, p, &m) && fine;
   }
   if (colours && to.folder != NULL) {
     fine = show_colours(to, quiet, f) && fine;
+  }
+  if (colours && to.folder != NULL && planes_of(f) > COLOURS) {
+    fine = show_on_white(to, quiet, f) && fine;
   }
   return fine;
 }

@@ -2,7 +2,7 @@
 
 #include <string.h>
 
-static const char *const words[] = {"nothing", "ignore", "offset", "swap", "sample", "mark", "precision"};
+static const char *const words[] = {"nothing", "ignore", "edition", "offset", "swap", "sample", "mark", "precision"};
 
 bool wrong_by_name(const char *word, enum wrong *w)
 {

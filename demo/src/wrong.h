@@ -4,7 +4,7 @@
 
 #include "finish.h"
 
-enum wrong { WRONG_NOTHING, WRONG_IGNORE, WRONG_OFFSET, WRONG_SWAP, WRONG_SAMPLE, WRONG_MARK, WRONG_PRECISION };
+enum wrong { WRONG_NOTHING, WRONG_IGNORE, WRONG_EDITION, WRONG_OFFSET, WRONG_SWAP, WRONG_SAMPLE, WRONG_MARK, WRONG_PRECISION };
 
 // False where there is no such word.
 bool wrong_by_name(const char *word, enum wrong *w);
