@@ -95,9 +95,9 @@ static uint32_t spoil_reading(uint32_t returned, uint64_t *reading, size_t readi
     return returned;
 }
 
-// What the rules without a model are to find shows in their own calls alone: those after the first of a picture in which the file
-// has other bytes with the same sum, as with definitions in another order, or the same bytes and the edition is the other.
-enum { FIRST_CALL, SAME_CALL, OTHER_ORDER, OTHER_EDITION };
+// What the rules without a model are to find shows in their own calls alone. Compared with the first call for a picture, the file
+// has other bytes with the same sum there, as with definitions in another order, or the edition is the other.
+enum { SAME_CALL, OTHER_ORDER, OTHER_EDITION };
 static struct {
     int known, second;
     uint64_t sum, hash;
@@ -117,7 +117,6 @@ static int kind_of_call(const uint8_t *file, size_t file_len, uint32_t edition2)
         seen.second = edition2 != 0;
         seen.sum = sum;
         seen.hash = hash;
-        return FIRST_CALL;
     }
     if (seen.hash != hash)
         return seen.sum == sum ? OTHER_ORDER : SAME_CALL;
@@ -239,11 +238,14 @@ static void follow_moves(const uint8_t *file, size_t file_len, const uint64_t *r
     }
 }
 
-static void mark_by_first_definition(const uint8_t *file, size_t file_len, uint32_t *records, uint64_t channels)
+static void mark_by_first_definition(const uint8_t *file, size_t file_len, const uint64_t *reading, uint32_t *records, uint64_t channels)
 {
-    uint64_t reading[READING_NUMBERS];
+    uint64_t own[READING_NUMBERS];
     struct cuzhantir_definition d;
-    right_cuzhantir_read(file, file_len, reading, READING_NUMBERS);
+    if (reading == NULL) {
+        right_cuzhantir_read(file, file_len, own, READING_NUMBERS);
+        reading = own;
+    }
     follow_moves(file, file_len, reading, channels);
     for (uint64_t n = reading[CDEF_COUNT]; n > 0; n--) {
         cuzhantir_definition_at(file, file_len, reading, n - 1, &d);
@@ -285,7 +287,7 @@ static uint32_t wrong_second(FINISH_PARAMETERS, uint32_t edition2, PICTURE_PARAM
         return first == 27 || first == 28 ? first : right(FINISH_WORDS, edition2, PICTURE_WORDS);
     }
     if (WRONG == FIRST_DEFINITION && r == 0 && ignore == 0)
-        mark_by_first_definition(file, file_len, records, answer[ANSWER_COUNT]);
+        mark_by_first_definition(file, file_len, reading, records, answer[ANSWER_COUNT]);
     return r;
 }
 
