@@ -15,7 +15,7 @@ use Rattle.picture_order.specs.Flat.{reordered}
 use Rattle.picture_order.proofs.Fronts.{reordered-front}
 use Rattle.picture_rules.specs.Image.{Image}
 use Rattle.picture_rules.specs.Channels.{channels}
-use Rattle.picture_rules.specs.Finish.{Finishing, finished, declined, expanded, picture}
+use Rattle.picture_rules.specs.Finish.{Finishing, finished, expanded, picture}
 use Rattle.picture_rules.specs.declared.Finished.{Finished}
 use Rattle.picture_rules.specs.declared.Finished.the-variants.{Planes, Refused}
 use Rattle.picture_rules.specs.Answers.{answered, fronted, recordsAfter, samplesAfter, Done}

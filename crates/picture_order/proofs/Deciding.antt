@@ -15,7 +15,7 @@ use Rattle.picture_rules.specs.Order.{swapped, marked}
 use Rattle.picture_rules.proofs.Exchange
 use Rattle.picture_rules.proofs.Steps.{by-row}
 use Rattle.picture_order.specs.Flat.{numberAt}
-use Rattle.picture_order.specs.Private.Steps.{Exchanged, Positioned, Agree, listOf, markIf, Decided}
+use Rattle.picture_order.specs.Private.Steps.{Exchanged, Positioned, Agree, listOf, Decided}
 use Rattle.picture_order.specs.declared.positions.Ask.{Ask}
 use Rattle.picture_order.specs.declared.task.Run.{Run}
 use Rattle.picture_order.proofs.Agreement.{agree-mark, agree-same, agree-swap, positioned-swap}

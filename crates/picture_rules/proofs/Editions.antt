@@ -1,7 +1,7 @@
 -- Edition 1 is what it was; any flag but 0 is edition 2, and what it accepts edition 1 accepts, marks aside with the same planes.
 -- Assumes nothing.
 use Prim.Native.Nat.{ℕ, _+_, _-_, _*_}
-use mathlib.Core.Path.{_≡_, refl, sym, ap, ap₂, subst, _∙_}
+use mathlib.Core.Path.{_≡_, refl, sym, ap, subst, _∙_}
 use mathlib.Core.Bool.{true, false}
 use mathlib.Core.List.{List, [], _∷_}
 use native.Mathlib.Omega.{arith}
@@ -20,12 +20,12 @@ use Rattle.picture_rules.specs.Image.{Image, image}
 use Rattle.picture_rules.specs.Handed.{Handed}
 use Rattle.picture_rules.specs.Channels.{channels}
 use Rattle.picture_rules.specs.Samples.{packed}
-use Rattle.picture_rules.specs.Finish.{Finishing, finished, declined, counted, expanded, picture, fitted, colourChecks, checks, finish}
+use Rattle.picture_rules.specs.Finish.{Finishing, declined, counted, expanded, picture, fitted, colourChecks, checks, finish}
 use Rattle.picture_rules.specs.OrderFreedom.{SamePlanes}
 use Rattle.picture_rules.specs.Editions.{withEdition, FirstEdition, SecondEdition}
 use Rattle.picture_rules.proofs.Flats.{flat-at}
 use Rattle.picture_rules.proofs.Rules.{order-free, same-places}
-use Rattle.picture_rules.proofs.Checks.{Checked, Passed, passed, passes, made}
+use Rattle.picture_rules.proofs.Checks.{Checked, passed, passes, made}
 
 -- tests that hold together are alike
 same-test : (s t : Test) → (Says true s → Says true t) → (Says true t → Says true s) → holds s ≡ holds t

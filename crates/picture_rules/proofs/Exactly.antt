@@ -17,7 +17,7 @@ use Rattle.picture_rules.specs.Edition.{leastCounted}
 use Rattle.picture_rules.specs.Check.{misnamed, undefined, mismapped}
 use Rattle.picture_rules.specs.Finish.{Finishing, finished, declined, outsideLists, outsideFile, counted, fitted, colourChecks, checks, finish}
 use Rattle.picture_rules.specs.Passing.{Inside, channelCount, Named, HasDefinition, MappedRight, HasSamples, Passing, FinishedExactly, LowestWithout, RoomFor, RefusedExactly}
-use Rattle.picture_rules.proofs.Checks.{Checked, Passed, passed, passes, made}
+use Rattle.picture_rules.proofs.Checks.{Checked, passed, passes}
 
 module _ (f : List ℕ) (m : Jp2) (i : Image) where
   inside-says : Inside f m i → Says false (outsideLists i or outsideFile f m)

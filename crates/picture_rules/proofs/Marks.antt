@@ -5,7 +5,6 @@ use mathlib.Core.Path.{_≡_, refl, ap, sym, _∙_}
 use mathlib.Core.Bool.{true, false}
 use mathlib.Core.List.{List, [], _∷_, _++_}
 use native.Mathlib.Omega.{arith}
-use lib.Dec.{ltb}
 use lib.ListN.{length}
 use borrow.Author.Tests.{lt-ltb, ltb-true}
 use Rattle.box_number.specs.Table.{Says, _=?_, _≠?_, _or_, _and_, otherwise, _⇒_∣_, table}

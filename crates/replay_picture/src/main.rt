@@ -1,5 +1,5 @@
-// Finishes each picture of a list and compares the answer and every number of both destinations with those in the list, which are the crate's answer.
-// The list is made of the seed 1; oracle/README.md has its form ("The replay list").
+// Finishes each picture of two lists, one behind the other, and compares the answer and every number of both destinations with those in the list. Those of the first list are the crate's answers, those of the second are told for edition 2.
+// The lists are made of the seed 1; oracle/README.md has their form ("The replay list").
 ghost use mathlib.Core.Path.{_≡_};
 ghost use lib.ListN.{length};
 use libc::STDIN_FILENO;
@@ -10,20 +10,30 @@ mod compare;
 mod list;
 mod put;
 
-// The crate's answers are those of edition 1 of the camera rules.
+// The editions of the camera rules; the crate's answers are those of edition 1.
 const EDITION_1: u32 = 0;
+
+const EDITION_2: u32 = 1;
 
 // The most elements of a given list, and of a destination for records.
 const MOST: usize = 128;
 
-// The tally counts finished pictures at 0, the refusal n at n, and pictures that differ from the list at DIFFERING of compare.
 fn main() {
     let mut list = list_room();
     let n = io::read_full(STDIN_FILENO, &mut list);
     let mut room = samples_room();
+    let second = replay(EDITION_1, &list[..n], &mut room);
+    say(b"In edition 2:\n", &[]);
+    let behind = replay(EDITION_2, second, &mut room);
+    say(b"bytes behind the lists: #\n", &[behind.len()]);
+}
+
+// Replays the list in front in an edition, prints how its pictures came out, and gives what is behind it.
+// The tally counts finished pictures at 0, the refusal n at n, and pictures that differ from the list at DIFFERING of compare.
+fn replay<'a>(edition2: u32, list: &'a [u8], room: &mut [i32]) -> &'a [u8] {
     let mut tally = [0usize; 32];
-    let cases = each_case(&list[..n], &mut room, &mut tally);
-    say(b"cases: #\n", &[cases as usize]);
+    let behind = each_case(edition2, list, room, &mut tally);
+    say(b"cases: #\n", &[list::number(list, 0) as usize]);
     say(
         b"finished: #\n\
            refused 1: #\n\
@@ -59,6 +69,7 @@ fn main() {
            differing: #\n",
         &tally,
     );
+    behind
 }
 
 // The list has to fit in.
@@ -75,22 +86,22 @@ fn samples_room() -> [i32; 261120]
     [0; 261120]
 }
 
-// How many cases there are.
-fn each_case(list: &[u8], room: &mut [i32], tally: &mut [usize]) -> u32 {
+// Counts the outcome of each case of a list, and gives what is behind it.
+fn each_case<'a>(edition2: u32, list: &'a [u8], room: &mut [i32], tally: &mut [usize]) -> &'a [u8] {
     let cases = list::number(list, 0);
     let mut rest = box_number::part(list, 4, list.len());
     let mut i: u32 = 0;
     while i < cases {
         let taken = list::bytes(rest);
-        count(tally, case(i, rest, room));
+        count(tally, case(edition2, i, rest, room));
         rest = &rest[taken..];
         i = i + 1;
     }
-    cases
+    rest
 }
 
 // The count of the tally for picture i. Its lists are laid out first.
-fn case(i: u32, picture: &[u8], room: &mut [i32]) -> usize {
+fn case(edition2: u32, i: u32, picture: &[u8], room: &mut [i32]) -> usize {
     let mut comps = [0u32; MOST];
     let mut samples = [0i32; MOST];
     let mut records = [0u32; MOST];
@@ -104,6 +115,7 @@ fn case(i: u32, picture: &[u8], room: &mut [i32]) -> usize {
     let records_length = list::length(rooms, 0, MOST);
     let planes_length = list::length(rooms, 1, room.len());
     outcome(
+        edition2,
         i,
         picture,
         &comps[..comps_length],
@@ -115,6 +127,7 @@ fn case(i: u32, picture: &[u8], room: &mut [i32]) -> usize {
 
 // The same, with the lists lent. No answer is 9 9 9 9.
 fn outcome(
+    edition2: u32,
     i: u32,
     picture: &[u8],
     comps: &[u32],
@@ -128,7 +141,7 @@ fn outcome(
     cuzhantir::cuzhantir_picture(
         list::file(picture),
         list::number(flag, 0),
-        EDITION_1,
+        edition2,
         comps,
         list::number(flag, 1),
         samples,

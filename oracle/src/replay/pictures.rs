@@ -1,4 +1,4 @@
-//! The list of pictures: which go into it, and how it is written.
+//! The list of pictures: which go into it, and how it is written. Behind it is a second one, of edition 2.
 
 use crate::outcomes;
 use oracle::finished::{answer, Answer, FINISHED};
@@ -6,7 +6,7 @@ use oracle::generate::{
     definition_lists, definition_orders, mapping_lists, palette_edges, palette_widths,
     picture_edges, Pictures,
 };
-use oracle::{FinishingRequest, NO_DATA};
+use oracle::{edition2, FinishingRequest, NO_DATA};
 use std::collections::{BTreeMap, HashSet};
 
 /// Of the long tables one picture of this many is taken, each number without a divisor in common with the table's own.
@@ -14,6 +14,9 @@ const OF_WIDTHS: usize = 3;
 const OF_EDGES: usize = 5;
 const OF_MAPPINGS: usize = 1201;
 const OF_DEFINITIONS: [(usize, usize); 4] = [(1, 307), (2, 1549), (3, 6277), (4, 19421)];
+
+/// Of the pictures that edition 2 answers otherwise one of this many is taken.
+const OF_EDITION_2: usize = 7;
 
 /// So many generated pictures are looked through for the choice.
 const LOOKED_THROUGH: u64 = 100_000;
@@ -28,11 +31,16 @@ const QUOTAS: [usize; 3] = [8, 32, 9];
 /// The pictures of a list with their answers, none twice.
 #[derive(Default)]
 pub struct PictureChoice {
-    cases: Vec<(FinishingRequest, Answer)>,
+    cases: Vec<Case>,
+    /// Of these one in [`OF_EDITION_2`] that edition 2 answers otherwise, with its answer.
+    second: Vec<Case>,
     seen: HashSet<FinishingRequest>,
     /// How many generated pictures of each outcome were taken.
     taken: BTreeMap<Outcome, usize>,
 }
+
+/// A picture and its answer.
+type Case = (FinishingRequest, Answer);
 
 /// The number of a refusal, 0 for a finished picture, and what the latter has.
 type Outcome = (u64, [bool; 5]);
@@ -54,7 +62,20 @@ impl PictureChoice {
         for number in 0..LOOKED_THROUGH {
             choice.take_wanted(pictures.picture(number))?;
         }
+        choice.take_second()?;
         Ok(choice)
+    }
+
+    fn take_second(&mut self) -> Result<(), String> {
+        let mut differing = Vec::new();
+        for (picture, first) in &self.cases {
+            let second = edition2::answer(picture, first)?.answer;
+            if second != *first {
+                differing.push((picture.clone(), second));
+            }
+        }
+        self.second = differing.into_iter().step_by(OF_EDITION_2).collect();
+        Ok(())
     }
 
     fn take_all(&mut self, pictures: impl Iterator<Item = FinishingRequest>) -> Result<(), String> {
@@ -102,13 +123,9 @@ impl PictureChoice {
         Ok(())
     }
 
-    /// The number of cases, then the cases.
+    /// The list of edition 1, then that of edition 2.
     pub fn bytes(&self) -> Vec<u8> {
-        let mut bytes = (self.cases.len() as u32).to_be_bytes().to_vec();
-        for (picture, answer) in &self.cases {
-            bytes.extend(case(picture, answer));
-        }
-        bytes
+        [list(&self.cases), list(&self.second)].concat()
     }
 
     /// How many pictures of each outcome there are, and how many of these are of the seed.
@@ -119,7 +136,19 @@ impl PictureChoice {
             "finished",
             "pictures",
         );
+        println!("in edition 2:");
+        let numbers = self.second.iter().map(|(_, answer)| answer.number);
+        outcomes::print(numbers, std::iter::empty(), "finished", "pictures");
     }
+}
+
+/// The number of cases, then the cases.
+fn list(cases: &[Case]) -> Vec<u8> {
+    let mut bytes = (cases.len() as u32).to_be_bytes().to_vec();
+    for (picture, answer) in cases {
+        bytes.extend(case(picture, answer));
+    }
+    bytes
 }
 
 fn quota(number: u64) -> usize {
@@ -149,7 +178,7 @@ fn outcome(picture: &FinishingRequest, answer: &Answer) -> Outcome {
 
 /// One picture with its answer, as it stands in the list.
 fn case(picture: &FinishingRequest, answer: &Answer) -> Vec<u8> {
-    let mut case = Case::default();
+    let mut case = Bytes::default();
     case.number(picture.file.len() as u32);
     case.0.extend(&picture.file);
     case.number(picture.ignore);
@@ -173,9 +202,9 @@ fn case(picture: &FinishingRequest, answer: &Answer) -> Vec<u8> {
 
 /// The bytes of a case so far.
 #[derive(Default)]
-struct Case(Vec<u8>);
+struct Bytes(Vec<u8>);
 
-impl Case {
+impl Bytes {
     /// Four bytes, the highest first.
     fn number(&mut self, number: u32) {
         self.0.extend(number.to_be_bytes());

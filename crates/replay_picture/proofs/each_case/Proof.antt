@@ -9,10 +9,10 @@ use Rattle.replay_picture.proofs.each_case.Statement.{statement}
 use Rattle.replay_picture.proofs.each_case.Tie as tie
 
 abbrev Inv-loop : tie.InvT-loop
-Inv-loop list room₀ tally₀ cases rest₀ i₀ room tally rest i = (i ≤ cases) × (length room ≡ length room₀) × (length tally ≡ length tally₀)
+Inv-loop edition2 list room₀ tally₀ cases rest₀ i₀ room tally rest i = (i ≤ cases) × (length room ≡ length room₀) × (length tally ≡ length tally₀)
 
 abbrev μ-loop : tie.MeasureT-loop
-μ-loop list room₀ tally₀ cases rest₀ i₀ room tally rest i = cases - i
+μ-loop edition2 list room₀ tally₀ cases rest₀ i₀ room tally rest i = cases - i
 
 number-requires : tie.Need-number-requires Inv-loop μ-loop
 number-requires c κs = search needs

@@ -1,7 +1,6 @@
 -- `picture_check::definitions::first_undefined` meets its contract.
 -- Assumes nothing.
 use native.Mathlib.Omega.{arith}
-use borrow.Author.Needs.{needs}
 use Rattle.picture_rules.specs.Check.{undefined}
 use Rattle.box_number.proofs.Indices.{none-is}
 use Rattle.picture_check.proofs.definitions.first_undefined.Statement.{statement}

@@ -7,7 +7,6 @@ use Rattle.box_number.proofs.Rows.{row}
 use Rattle.box_number.proofs.Answers.{said}
 use Rattle.read_channels.specs.Definitions.{definitionsOutside}
 use Rattle.picture_order.specs.Private.Task.{task}
-use borrow.Author.Needs.{needs}
 use Rattle.picture_order.proofs.task.check.Statement.{statement}
 use Rattle.picture_order.proofs.task.check.Tie as tie
 
