@@ -12,7 +12,8 @@ use Rattle.box_number.proofs.Rows.{row, each}
 use Rattle.picture_rules.specs.Edition.{orderFreeNumbers}
 use Rattle.picture_rules.specs.Image.{Image, image, listed, component, width, height, first, mark, noData, sampleAt}
 use Rattle.picture_rules.specs.Finish.{Finishing, finished}
-use Rattle.picture_rules.specs.Words.{Handed, Accepted, Empty, channelSample}
+use Rattle.picture_rules.specs.Words.{Handed, Accepted, Defined, Clear, Empty, channelSample}
+use Rattle.picture_rules.specs.OwnMark.{LastOf, defined}
 use Rattle.picture_rules.specs.PictureRule.{FilledPlanes}
 use Rattle.picture_rules.specs.EveryPicture.{EveryPlane}
 use Rattle.picture_rules.specs.OrderFreedom.{withFile, AlikeButOrder, SamePlanes, SameDestinations, OrderFreedom}
@@ -57,6 +58,18 @@ tells-count free h g m k planes others o y z =
 pub tells-mark : (edition2 : ℕ) (planes others : Image) → (edition2 ≡ 0 → ⊥) → SamePlanes edition2 planes others → (p : ℕ) → p < planes .count → mark others p ≡ mark planes p
 unfolding orderFreeNumbers
 tells-mark edition2 planes others second same p l = same .records p 12 l (subst (λ many. 12 < many) (row 1 _ (second, tt) refl) (omega arith))
+
+-- every flag but 0 is edition 2. With it the plane of each channel has the typ of the channel's last definition as its mark
+pub tells-own-mark :
+    (h : Handed) (m : Jp2) (planes : Image) (filled : FilledPlanes h m planes) → (h .settings .edition2 ≡ 0 → ⊥) → 0 < m .lists .cdef .count → (c : ℕ) → c < planes .count →
+    (j : ℕ) × LastOf h m c j × (mark planes (filled .pairing .to c) ≡ defined h m j .typ)
+tells-own-mark h m planes filled second some c l = filled .marks second c l .from-definition some
+
+-- and pictures that are alike in all but the order of definitions are one
+pub tells-one :
+    OrderFreedom → (h : Handed) (g : List ℕ) (m k : Jp2) (planes others : Image) → AlikeButOrder h g m → Accepted h m planes → Accepted (withFile g h) k others → Defined h m → Clear h m →
+    (h .settings .edition2 ≡ 0 → ⊥) → others ≡ planes
+tells-one free h g m k planes others o y z applied clear second = free .equal h g m k planes others o y z applied clear second
 
 -- every channel is in order where nothing defines the channels
 pub tells-order :

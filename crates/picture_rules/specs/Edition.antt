@@ -3,7 +3,7 @@ use Prim.Native.Nat.{ℕ}
 use Rattle.box_number.specs.Table.{_=?_, otherwise, _⇒_∣_, table}
 use Rattle.read_record.specs.Component.{alpha, numbersEach}
 
--- a colour definition moves its channel's record from position p to position q: the position whose record then takes the mark. Edition 1: the old position p, which has another channel's record now (difference 31). Edition 2: its own channel's
+-- a colour definition moves its channel's record from position p to position q: the position whose record then takes the mark. Edition 1: the old position p, where another channel's record is then (difference 31). Edition 2: q, where the channel's own record is
 unfoldable pub markedPosition : ℕ → ℕ → ℕ → ℕ
 markedPosition edition2 p q = table (edition2 =? 0 ⇒ p ∣ otherwise q)
 
