@@ -1,10 +1,12 @@
 -- A picture is finished exactly where every check passes.
 -- Assumes nothing.
-use Prim.Native.Nat.{ℕ, _*_, _≤_, _<_}
+use Prim.Native.Nat.{ℕ, _+_, _*_, _≤_, _<_}
+use native.Mathlib.Omega.{arith}
 use mathlib.Core.Path.{_≡_, refl, sym, ap, subst, _∙_}
 use mathlib.Core.Bool.{false}
 use Rattle.box_number.proofs.Rows.{Says, row, each}
 use Rattle.read_record.specs.declared.Jp2.{Jp2}
+use Rattle.picture_rules.specs.Edition.{leastCounted}
 use Rattle.picture_rules.specs.Image.{Image}
 use Rattle.picture_rules.specs.Channels.{channels}
 use Rattle.picture_rules.specs.Samples.{startOf}
@@ -12,6 +14,15 @@ use Rattle.picture_rules.specs.Check.{misnamed, undefined, mismapped, da
 use Rattle.picture_rules.specs.Finish.{Finishing, finished, declined, outsideLists, outsideFile, counted, picture, fitted, colourChecks, checks, finish}
 use Rattle.picture_rules.specs.Handed.{Settings, Handed}
 use Rattle.box_number.proofs.Indices.{lowest-none, none-lowest}
+
+-- the least channel that an edition counts, in numbers: 1 in edition 1, and 0 in any other
+pub counted-from : (edition2 c : ℕ) → leastCounted edition2 < c + 1 → edition2 ≡ 0 → 1 ≤ c
+unfolding leastCounted
+counted-from edition2 c = each (λ least. least < c + 1 → edition2 ≡ 0 → 1 ≤ c) _ ((λ _ l _. omega arith), λ second l first. absurd (second first))
+
+pub from-counted : (edition2 c : ℕ) → (edition2 ≡ 0 → 1 ≤ c) → leastCounted edition2 < c + 1
+unfolding leastCounted
+from-counted edition2 c from = each (λ least. least < c + 1) _ ((λ first. omega (arith, from first)), λ _. omega arith)
 
 -- 25 to 28 and 30 pass
 pub record Checked (h : Handed) (m : Jp2) : Type 0 where

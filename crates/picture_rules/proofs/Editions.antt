@@ -24,6 +24,7 @@ use Rattle.picture_rules.specs.Finish.{Finishing, declined, counted, exp
 use Rattle.picture_rules.specs.OrderFreedom.{SamePlanes}
 use Rattle.picture_rules.specs.Editions.{withEdition, FirstEdition, SecondEdition}
 use Rattle.picture_rules.proofs.Flats.{flat-at}
+use Rattle.picture_rules.proofs.Marks.{second-marked}
 use Rattle.picture_rules.proofs.Rules.{order-free, same-places}
 use Rattle.picture_rules.proofs.Checks.{Checked, passed, passes, made}
 
@@ -45,8 +46,7 @@ first-edition =
 -- any flag but 0 is as good as 1
 module _ (edition2 : ℕ) (second : edition2 ≡ 0 → ⊥) where
   same-marked : (p q : ℕ) → markedPosition edition2 p q ≡ markedPosition 1 p q
-  unfolding markedPosition
-  same-marked p q = sym (row 1 _ (second, tt) refl) ∙ row 1 _ ((λ e. absurd (omega arith)), tt) refl
+  same-marked p q = second-marked edition2 p q second ∙ sym (second-marked 1 p q (λ e. absurd (omega arith)))
 
   same-least : leastCounted edition2 ≡ leastCounted 1
   unfolding leastCounted

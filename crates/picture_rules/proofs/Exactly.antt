@@ -1,6 +1,6 @@
 -- The rows of the tables of finishing, said of the pictures that pass them.
 -- Assumes nothing.
-use Prim.Native.Nat.{ℕ, _+_, _≤_, _<_}
+use Prim.Native.Nat.{ℕ, _<_}
 use mathlib.Core.Path.{_≡_, refl, sym, subst}
 use mathlib.Core.Bool.{false}
 use mathlib.Core.List.{List}
@@ -13,11 +13,10 @@ use Rattle.read_record.specs.declared.Jp2.{Jp2}
 use Rattle.read_channels.specs.Cdef.{Cn}
 use Rattle.picture_rules.specs.Image.{Image}
 use Rattle.picture_rules.specs.Handed.{Handed}
-use Rattle.picture_rules.specs.Edition.{leastCounted}
 use Rattle.picture_rules.specs.Check.{misnamed, undefined, mismapped}
 use Rattle.picture_rules.specs.Finish.{Finishing, finished, declined, outsideLists, outsideFile, counted, fitted, colourChecks, checks, finish}
 use Rattle.picture_rules.specs.Passing.{Inside, channelCount, Named, HasDefinition, MappedRight, HasSamples, Passing, FinishedExactly, LowestWithout, RoomFor, RefusedExactly}
-use Rattle.picture_rules.proofs.Checks.{Checked, passed, passes}
+use Rattle.picture_rules.proofs.Checks.{counted-from, from-counted, Checked, passed, passes}
 
 module _ (f : List ℕ) (m : Jp2) (i : Image) where
   inside-says : Inside f m i → Says false (outsideLists i or outsideFile f m)
@@ -35,15 +34,6 @@ module _ (f : List ℕ) (m : Jp2) (i : Image) where
         mappings = g .1 .0;
         definitions = g .1 .1;
       }
-
--- the least channel that an edition counts, in numbers: 1 in edition 1, and 0 in any other
-counted-from : (edition2 c : ℕ) → leastCounted edition2 < c + 1 → edition2 ≡ 0 → 1 ≤ c
-unfolding leastCounted
-counted-from edition2 c = each (λ least. least < c + 1 → edition2 ≡ 0 → 1 ≤ c) _ ((λ _ l _. omega arith), λ second l first. absurd (second first))
-
-from-counted : (edition2 c : ℕ) → (edition2 ≡ 0 → 1 ≤ c) → leastCounted edition2 < c + 1
-unfolding leastCounted
-from-counted edition2 c from = each (λ least. least < c + 1) _ ((λ first. omega (arith, from first)), λ _. omega arith)
 
 module _ (h : Handed) (m : Jp2) where
   -- a channel that some definition names is not without one

@@ -30,7 +30,7 @@ ownMark n [] c old = old
 ownMark n (d ∷ ds) c old = ownMark n ds c (marking n d c old)
 
 -- the definition's own channel is marked
-second-marked : (edition2 p q : ℕ) → (edition2 ≡ 0 → ⊥) → markedPosition edition2 p q ≡ q
+pub second-marked : (edition2 p q : ℕ) → (edition2 ≡ 0 → ⊥) → markedPosition edition2 p q ≡ q
 unfolding markedPosition
 second-marked edition2 p q second = sym (row 1 _ (second, tt) refl)
 

@@ -37,7 +37,8 @@ use Rattle.picture_rules.specs.Channels.{channels, componentOf, typeOf}
 use Rattle.picture_rules.specs.Samples.{displayed, lookup, valueFor, valueOf, channelSamples, packed, startOf}
 use Rattle.picture_rules.specs.Finish.{counted, expanded, picture, fitted, colourChecks, checks, finish}
 use Rattle.picture_rules.specs.Words.{Handed, Accepted}
-use Rattle.picture_rules.specs.Met.{otherwise-turned, directFile, directExample, directPlanes, palettedFile, paletted, palettedPlanes, opacityFile, listedLast, opacityExample, opacityPlanes, single, singlePlanes, shared, sharedPlanes, Met, RuleMet, DirectMet, PaletteMet, OpacityMet, SingleMet, SharedMet}
+use Rattle.picture_rules.specs.Met.{otherwise-turned, directFile, directExample, directPlanes, palettedFile, paletted, palettedPlanes, opacityFile, listedLast, opacityExample, opacityPlanes, single, singlePlanes, shared, sharedPlanes, Met, RuleMet, DirectMet, PaletteMet, OpacityMet, FlagsReach, SingleMet, SharedMet}
+use Rattle.picture_rules.specs.Whole.{pictured}
 use Rattle.picture_rules.proofs.Distinct.{DifferPairwise, once-pairwise, swapped, alike-parts}
 
 -- definitions at a place that differ pairwise
@@ -103,6 +104,10 @@ opacity-met =
     met opacityExample opacityPlanes (opacityFile listedLast) (keptOf (given (read (opacityExample .file)))) 72 (def 0 1 0) (def 1 0 1) []
     (record { reading = refl; finishing = refl }) refl refl refl refl (omega arith)
     (alike-parts (opacityExample .file) (opacityFile listedLast) 72 12 refl refl refl) (λ e. omega (arith, ap (λ x. getD x 73 0) e))
+
+pub flags-reach : FlagsReach
+unfolding computing pictured
+flags-reach = record { second = refl; first = refl; ignored = (refl, refl) }
 
 pub single-met : SingleMet
 unfolding computing

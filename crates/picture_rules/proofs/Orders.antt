@@ -35,7 +35,7 @@ unfolding orderFreeNumbers
 few-numbers edition2 k = each (λ many. k < many → k < 13) _ ((λ _ l. omega arith), λ _ l. l)
 
 -- in edition 2 all numbers are
-all-numbers : (edition2 k : ℕ) → (edition2 ≡ 0 → ⊥) → k < 13 → k < orderFreeNumbers edition2
+pub all-numbers : (edition2 k : ℕ) → (edition2 ≡ 0 → ⊥) → k < 13 → k < orderFreeNumbers edition2
 unfolding orderFreeNumbers
 all-numbers edition2 k second l = subst (λ many. k < many) (row 1 _ (second, tt) refl) l
 

@@ -10,12 +10,11 @@ use lib.IntN.{ℤ, pos}
 use lib.ListN.{length, getD, length-append, List·getD-append}
 use Rattle.box_number.specs.Table.{Test, _=?_}
 use Rattle.box_number.specs.Lowest.{lowest}
-use Rattle.box_number.proofs.Rows.{Says, row, each}
+use Rattle.box_number.proofs.Rows.{Says, row}
 use Rattle.read_record.specs.declared.Jp2.{Jp2}
 use Rattle.read_channels.specs.Cdef.{Cn}
 use Rattle.read_channels.specs.Definitions.{Def, definition, definitionsTo, definitions}
 use Rattle.picture_rules.specs.Definitions.{Colour, misnames}
-use Rattle.picture_rules.specs.Edition.{leastCounted}
 use Rattle.picture_rules.specs.Order.{runDefinitions, arranged}
 use Rattle.picture_rules.specs.Flat.{flat}
 use Rattle.picture_rules.specs.Rules.{Paired, OrderPairs, ColourLands, definitionAt, LastFor, OrderMarks}
@@ -31,7 +30,7 @@ use Rattle.picture_rules.specs.EveryPicture.{EveryPlane}
 use Rattle.box_number.proofs.Indices.{decide, lowest-most, lowest-passes}
 use Rattle.picture_rules.proofs.Flats.{flat-length, flat-at}
 use Rattle.picture_rules.proofs.Packs.{start-more, size-some, packed-inside, packed-at}
-use Rattle.picture_rules.proofs.Checks.{Checked, made}
+use Rattle.picture_rules.proofs.Checks.{from-counted, Checked, made}
 use Rattle.picture_rules.proofs.Listed.{occurs, listed-length, listed-at, last-named}
 use Rattle.picture_rules.proofs.Mappings.{Kept, component-within}
 
@@ -56,11 +55,6 @@ module _ (f : List ℕ) (m : Jp2) (i : Image) (c : ℕ) where
   expanded-start : (first i (componentOf f m c) ≡ noData → ⊥) → expanded f m i c 11 ≡ startOf f m i c
   unfolding expanded
   expanded-start h = sym (row 2 _ ((λ _. omega arith), ((λ _. omega arith), (h, refl))) refl)
-
--- in edition 2 number 26 counts every channel
-second-counts : (edition2 c : ℕ) → (edition2 ≡ 0 → ⊥) → leastCounted edition2 < c + 1
-unfolding leastCounted
-second-counts edition2 c second = each (λ least. least < c + 1) _ ((λ first. absurd (second first)), λ _. omega arith)
 
 -- a sample by its index within its plane
 at-index : (samples : List ℤ) (start w y x : ℕ) → getD samples (indexOf start w y x) (pos 0) ≡ getD samples (start + (y * w + x)) (pos 0)
@@ -192,7 +186,7 @@ module _ (h : Handed) (m : Jp2) (numbers : List ℕ) (samples : List ℤ) (pairs
         let cdef = m .lists .cdef in
         let t : ℕ → Test = λ j. Cn f cdef j =? c in
         let found : lowest t (cdef .count) < cdef .count =
-        omega (arith, lowest-most t (cdef .count), checked .defined c l (λ z. omega arith) (second-counts edition2 c second)) in
+        omega (arith, lowest-most t (cdef .count), checked .defined c l (λ z. omega arith) (from-counted edition2 c (λ first. absurd (second first)))) in
         let (j, r) = last-named f cdef (cdef .count) c (lowest t (cdef .count)) found (lowest-passes t (cdef .count) found) in
         (j, record { below = r .below; names = r .names; last = r .last })
 

@@ -8,7 +8,7 @@ use native.Mathlib.Omega.{arith}
 use lib.IntN.{ℤ, pos}
 use lib.ListN.{length, drop, List·getD-append}
 use Rattle.read_record.specs.declared.Jp2.{Jp2}
-use Rattle.box_number.proofs.Rows.{row, each}
+use Rattle.box_number.proofs.Rows.{each}
 use Rattle.picture_rules.specs.Edition.{orderFreeNumbers}
 use Rattle.picture_rules.specs.Image.{Image, image, listed, component, width, height, first, mark, noData, sampleAt}
 use Rattle.picture_rules.specs.Finish.{Finishing, finished}
@@ -17,7 +17,7 @@ use Rattle.picture_rules.specs.OwnMark.{LastOf, defined}
 use Rattle.picture_rules.specs.PictureRule.{FilledPlanes}
 use Rattle.picture_rules.specs.EveryPicture.{EveryPlane}
 use Rattle.picture_rules.specs.OrderFreedom.{withFile, AlikeButOrder, SamePlanes, SameDestinations, OrderFreedom}
-use Rattle.picture_rules.proofs.Orders.{only}
+use Rattle.picture_rules.proofs.Orders.{all-numbers, only}
 
 -- at every point of channel c's plane is the channel's sample
 pub tells-sample :
@@ -56,8 +56,7 @@ tells-count free h g m k planes others o y z =
 
 -- in edition 2 every record of the same planes has the same mark
 pub tells-mark : (edition2 : ℕ) (planes others : Image) → (edition2 ≡ 0 → ⊥) → SamePlanes edition2 planes others → (p : ℕ) → p < planes .count → mark others p ≡ mark planes p
-unfolding orderFreeNumbers
-tells-mark edition2 planes others second same p l = same .records p 12 l (subst (λ many. 12 < many) (row 1 _ (second, tt) refl) (omega arith))
+tells-mark edition2 planes others second same p l = same .records p 12 l (all-numbers edition2 12 second (omega arith))
 
 -- every flag but 0 is edition 2. With it the plane of each channel has the typ of the channel's last definition as its mark
 pub tells-own-mark :
@@ -88,9 +87,8 @@ tells-number edition2 n records others planes planes′ pixels pixels′ same p 
 pub tells-marks :
     (edition2 n : ℕ) (records others : List ℕ) (planes planes′ pixels pixels′ : List ℤ) → (edition2 ≡ 0 → ⊥) → SameDestinations edition2 n records others planes planes′ pixels pixels′ →
     (p : ℕ) → p < n → mark (listed others) p ≡ mark (listed records) p
-unfolding orderFreeNumbers
 tells-marks edition2 n records others planes planes′ pixels pixels′ second same p l =
-    same .numbers p 12 l (subst (λ many. 12 < many) (row 1 _ (second, tt) refl) (omega arith))
+    same .numbers p 12 l (all-numbers edition2 12 second (omega arith))
 
 -- so is every sample of every plane
 pub tells-both :

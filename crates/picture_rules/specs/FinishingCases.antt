@@ -268,7 +268,7 @@ cases =
     one (pos 1) with twoColumns (mapping 0 1 0 ++ mapping 0 1 1) (def 1 0 2 ∷ def 2 0 1 ∷ []) into enough gives declined 25 1 ∣
     pair with mapped 2 (7 ∷ []) (10 ∷ 20 ∷ []) (mapping 1 1 0) (def 0 0 1 ∷ def 1 0 1 ∷ []) into enough gives declined 25 1 ∣
     pair with mapped 2 (7 ∷ []) (10 ∷ 20 ∷ []) (mapping 1 1 0) (def 0 0 1 ∷ def 0 0 2 ∷ []) into enough gives declined 25 1 ∣
-    -- 26, the lowest channel from 1 up that no definition names; channel 0 may lack one
+    -- 26 in edition 1, the lowest channel from 1 up that no definition names; channel 0 may lack one
     pair with defined (def 0 0 1 ∷ []) into enough gives declined 26 1 ∣
     four-points with defined (def 1 0 2 ∷ []) into enough gives declined 26 2 ∣
     four-points with defined (def 2 0 1 ∷ def 1 0 2 ∷ []) into enough gives declined 26 3 ∣

@@ -3,13 +3,16 @@ use Prim.Native.Nat.{ℕ, _*_}
 use mathlib.Core.Path.{_≡_}
 use mathlib.Core.List.{List, [], _∷_, _++_}
 use lib.IntN.{pos}
+use lib.ListN.{replicate}
 use Rattle.box_kind.specs.declared.Jp2BoxType.the-variants.{PCLR, CMAP, CDEF}
 use Rattle.read_record.specs.declared.Jp2.{Jp2}
 use Rattle.read_rules.specs.Files.{two, boxOf, ihdrBox, pictureFile as fileOf}
 use Rattle.picture_rules.specs.Image.{Image, image}
 use Rattle.picture_rules.specs.Handed.{Handed, settings}
 use Rattle.picture_rules.specs.Words.{Accepted, Defined, Clear}
+use Rattle.picture_rules.specs.Finish.{Finishing, finished}
 use Rattle.picture_rules.specs.OrderFreedom.{AlikeButOrder}
+use Rattle.picture_rules.specs.Whole.{handed, pictured}
 
 -- one definition, or mapping, as it is written
 abbrev pub definitionBytes : ℕ → ℕ → ℕ → List ℕ
@@ -137,6 +140,15 @@ PaletteMet = Met paletted palettedPlanes (palettedFile otherwise-turned)
 -- in edition 2 too
 abbrev pub OpacityMet : Type 0
 OpacityMet = Met opacityExample opacityPlanes (opacityFile listedLast)
+
+-- what a caller hands in reaches reading and finishing, both flags too: the same file in edition 2 and in edition 1, and with the ignore flag in either
+abbrev pub opacityHanded : ℕ → ℕ → Finishing
+opacityHanded ignore edition2 = pictured (handed (opacityExample .file) (settings ignore edition2) (opacityExample .image .components) 2 (opacityExample .image .samples) (replicate 26 5) (replicate 2 (pos 5)))
+
+pub record FlagsReach : Type 0 where
+  pub second : opacityHanded 0 1 ≡ finished opacityPlanes
+  pub first : opacityHanded 0 0 ≡ finished (image (pointRecord 1 7 ++ pointRecord 0 0) 2 (pos 10 ∷ pos 20 ∷ []))
+  pub ignored : (opacityHanded 1 0 ≡ finished (opacityExample .image)) × (opacityHanded 1 1 ≡ finished (opacityExample .image))
 
 -- the picture rule speaks of one definition, and of definitions that share numbers and clash nowhere
 abbrev pub SingleMet : Type 0
