@@ -3,9 +3,7 @@
 use Prim.Native.Nat.{ℕ, ◌+◌, ◌-◌, ◌*◌, ◌≤◌, ◌<◌}
 use native.Mathlib.Omega.{arith}
 use mathlib.Core.Path.{◌≡◌, refl, sym, ap, subst, ◌∙◌}
-use mathlib.Core.List.{List, [], ◌∷◌}
-use types.Run.{OneOf, miss}
-use denote.Enum.Declared.{tag_of}
+use mathlib.Core.List.{List}
 use lib.ListN.{length, take, drop}
 use Rattle.box_number.specs.Number.{number, part}
 use Rattle.box_kind.specs.Kind.{kind_of}
@@ -14,7 +12,6 @@ use Rattle.box_header.specs.Box.{LBox, length_of_header, box_length, header_of, 
 use Rattle.box_header.specs.declared.Jp2BoxHeader.{Jp2BoxHeader}
 use Rattle.box_header.specs.declared.ReadHeader.{ReadHeader}
 use Rattle.box_header.specs.declared.ReadHeader.TheVariants.{Header, NoBytes, Cut, HighWord, LengthZero}
-use Rattle.box_header.specs.contracts.ReadHeader.{the_type}
 use Rattle.box_number.proofs.Rows.{row, each}
 
 module _ (c : List ℕ) where
@@ -54,10 +51,6 @@ pub record Headed (c : List ℕ) (h : Jp2BoxHeader) : Type 0 where
   pub whole : length_of_header c ≤ length c
   pub low : box_length c ≤ 4294967295
 
--- the tags of the answers that are no header
-abbrev pub missing : List ℕ
-missing = 1 ∷ 2 ∷ 3 ∷ 4 ∷ []
-
 -- what an answer says of the bytes: the header is there, or P
 abbrev Shown : (Jp2BoxHeader → Type 0) → Type 0 → ReadHeader → Type 0
 Shown H P (Header h) = H h
@@ -70,11 +63,11 @@ module _ (H : Jp2BoxHeader → Type 0) (P : Type 0) where
   shown-header : {r s : ReadHeader} {h : Jp2BoxHeader} → Shown H P s → r ≡ s → r ≡ Header h → H h
   shown-header p e f = subst (Shown H P) (sym e ∙ f) p
 
-  shown-missing : (r : ReadHeader) {s : ReadHeader} → Shown H P s → r ≡ s → OneOf missing (tag_of the_type r) → P
+  shown-missing : (r : ReadHeader) {s : ReadHeader} → Shown H P s → r ≡ s → ((h : Jp2BoxHeader) → r ≡ Header h → ⊥) → P
   shown-missing r p e = go r (subst (Shown H P) (sym e) p)
     where
-      go : (r : ReadHeader) → Shown H P r → OneOf missing (tag_of the_type r) → P
-      go (Header h) q m = absurd (miss missing 0 tt m)
+      go : (r : ReadHeader) → Shown H P r → ((h : Jp2BoxHeader) → r ≡ Header h → ⊥) → P
+      go (Header h) q m = absurd (m h refl)
       go NoBytes q m = q
       go Cut q m = q
       go HighWord q m = q
@@ -93,7 +86,7 @@ module _ (c : List ℕ) where
   pub header-found : {r : ReadHeader} {h : Jp2BoxHeader} → r ≡ header c → r ≡ Header h → Headed c h
   header-found = shown-header (Headed c) NoBox header-shows
 
-  pub header-missing : (r : ReadHeader) → r ≡ header c → OneOf missing (tag_of the_type r) → length_of_header c ≤ length c → 4294967295 < box_length c
+  pub header-missing : (r : ReadHeader) → r ≡ header c → ((h : Jp2BoxHeader) → r ≡ Header h → ⊥) → length_of_header c ≤ length c → 4294967295 < box_length c
   header-missing r = shown-missing (Headed c) NoBox r header-shows
 
   -- inside a superbox
@@ -119,7 +112,7 @@ module _ (c : List ℕ) where
   pub child-found : {r : ReadHeader} {h : Jp2BoxHeader} → r ≡ child_header c → r ≡ Header h → Headed c h × (LBox c ≡ 0 → ⊥)
   child-found = shown-header InSuperbox NoChild child-shows
 
-  pub child-missing : (r : ReadHeader) → r ≡ child_header c → OneOf missing (tag_of the_type r) → length_of_header c ≤ length c → (LBox c ≡ 0 → ⊥) → 4294967295 < box_length c
+  pub child-missing : (r : ReadHeader) → r ≡ child_header c → ((h : Jp2BoxHeader) → r ≡ Header h → ⊥) → length_of_header c ≤ length c → (LBox c ≡ 0 → ⊥) → 4294967295 < box_length c
   child-missing r = shown-missing InSuperbox NoChild r child-shows
 
 -- a box's content, by where it ends and by how long it is

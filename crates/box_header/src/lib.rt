@@ -1,4 +1,6 @@
 // The header of a box (`Jp2BoxHeader` of jp2.rs).
+#![tactic(auto)]
+
 ghost use Rattle.std.specs.Prelude.{◌+◌, ◌-◌, ◌≡◌};
 ghost use Rattle.box_kind.specs.Kind.{number_of};
 ghost use Rattle.box_header.specs.Box.{header, child_header, new_header, fits_header, with_header};
@@ -8,7 +10,7 @@ use box_kind::Jp2BoxType;
 // The largest length that 32 bits hold.
 pub const LARGEST: usize = 4294967295;
 
-#[derive(Drop)]
+#[derive(Clone, Copy)]
 pub struct Jp2BoxHeader {
     pub length: u32,
     pub ty: Jp2BoxType,
@@ -16,7 +18,7 @@ pub struct Jp2BoxHeader {
 }
 
 // The answer of reading a header: the header, or one of the ways in which there is none.
-#[derive(Drop)]
+#[derive(Clone, Copy)]
 pub enum ReadHeader {
     Header(Jp2BoxHeader),
     NoBytes,

@@ -1,16 +1,9 @@
 -- Kinds and their numbers, both ways, and the kinds of the last arm of a `match`.
 -- Assumes nothing.
 use Prim.Native.Nat.{ℕ}
-use mathlib.Core.Path.{◌≡◌, refl, sym, ap, subst, ◌∙◌}
-use mathlib.Core.Bool.{Bool, true, false, not, ◌||◌}
-use lib.Dec.{T}
-use mir.Val.{has_key}
-use mathlib.Core.List.{List, [], ◌∷◌}
-use types.Run.{OneOf, miss}
-use denote.Enum.Declared.{tag_of}
-use Rattle.box_kind.specs.contracts.Jp2BoxType.{the_type}
-use Rattle.box_number.specs.Table.{holds, table}
-use Rattle.box_kind.specs.Kind.{kind_of, number_of, tag, is_file_header, is_image_header, Proper, KindsAndNumbers}
+use mathlib.Core.Path.{◌≡◌, refl, sym, ap, ◌∙◌}
+use Rattle.box_number.specs.Table.{table}
+use Rattle.box_kind.specs.Kind.{kind_of, number_of, Proper, KindsAndNumbers}
 use Rattle.box_kind.specs.declared.Jp2BoxType.{Jp2BoxType}
 use Rattle.box_kind.specs.declared.Jp2BoxType.TheVariants.{None, JPIP, JP, FTYP, JP2H, IHDR, COLR, JP2C, URL, PCLR, CMAP, CDEF, DTBL, BPCC, JP2, RES, JP2I, XML, UUID, UINF, Unknown}
 use Rattle.box_number.proofs.Rows.{row, each}
@@ -55,26 +48,3 @@ kinds_and_numbers =
       proper = proper;
       same_kind = λ k l p q e. sym (kind_back k p) ∙ ap kind_of e ∙ kind_back l q;
     }
-
--- where no kind of the list has f, a kind whose tag is in the list has it not
-pub by-tag : (ks : List ℕ) (f : Jp2BoxType → Bool) (k : Jp2BoxType) → T (not (has_key ks (tag_of the_type k)) || not (f k)) → OneOf ks (tag_of the_type k) → false ≡ f k
-by-tag ks f k t m = go (has_key ks (tag_of the_type k)) (f k) refl t
-  where
-    go : (b v : Bool) → has_key ks (tag_of the_type k) ≡ b → T (not b || not v) → false ≡ v
-    go b false e h = refl
-    go true true e h = absurd h
-    go false true e h = absurd (miss ks (tag_of the_type k) (subst (λ (x : Bool). T (not x)) (sym e) tt) m)
-
-pub not_file : (k : Jp2BoxType) → OneOf (0 ∷ 1 ∷ 5 ∷ 6 ∷ 7 ∷ 8 ∷ 9 ∷ 10 ∷ 11 ∷ 12 ∷ 13 ∷ 14 ∷ 15 ∷ 16 ∷ 17 ∷ 18 ∷ 19 ∷ 20 ∷ []) (tag_of the_type k) → false ≡ holds (is_file_header k)
-not_file k = by-tag (0 ∷ 1 ∷ 5 ∷ 6 ∷ 7 ∷ 8 ∷ 9 ∷ 10 ∷ 11 ∷ 12 ∷ 13 ∷ 14 ∷ 15 ∷ 16 ∷ 17 ∷ 18 ∷ 19 ∷ 20 ∷ []) (λ l. holds (is_file_header l)) k (elim k [ None ↦ tt | JPIP ↦ tt | JP ↦ tt | FTYP ↦ tt | JP2H ↦ tt | IHDR ↦ tt | COLR ↦ tt | JP2C ↦ tt | URL ↦ tt | PCLR ↦ tt | CMAP ↦ tt | CDEF ↦ tt | DTBL ↦ tt | BPCC ↦ tt | JP2 ↦ tt | RES ↦ tt | JP2I ↦ tt | XML ↦ tt | UUID ↦ tt | UINF ↦ tt | Unknown n ↦ tt ])
-
-pub not_image : (k : Jp2BoxType) → OneOf (0 ∷ 1 ∷ 2 ∷ 3 ∷ 4 ∷ 7 ∷ 8 ∷ 12 ∷ 14 ∷ 15 ∷ 16 ∷ 17 ∷ 18 ∷ 19 ∷ 20 ∷ []) (tag_of the_type k) → false ≡ holds (is_image_header k)
-not_image k = by-tag (0 ∷ 1 ∷ 2 ∷ 3 ∷ 4 ∷ 7 ∷ 8 ∷ 12 ∷ 14 ∷ 15 ∷ 16 ∷ 17 ∷ 18 ∷ 19 ∷ 20 ∷ []) (λ l. holds (is_image_header l)) k (elim k [ None ↦ tt | JPIP ↦ tt | JP ↦ tt | FTYP ↦ tt | JP2H ↦ tt | IHDR ↦ tt | COLR ↦ tt | JP2C ↦ tt | URL ↦ tt | PCLR ↦ tt | CMAP ↦ tt | CDEF ↦ tt | DTBL ↦ tt | BPCC ↦ tt | JP2 ↦ tt | RES ↦ tt | JP2I ↦ tt | XML ↦ tt | UUID ↦ tt | UINF ↦ tt | Unknown n ↦ tt ])
-
--- the tag that a `match` looks at is the kind's place in the list of names
-pub tag_is : (k : Jp2BoxType) → tag_of the_type k ≡ tag k
-tag_is k = elim k [ None ↦ refl | JPIP ↦ refl | JP ↦ refl | FTYP ↦ refl | JP2H ↦ refl | IHDR ↦ refl | COLR ↦ refl | JP2C ↦ refl | URL ↦ refl | PCLR ↦ refl | CMAP ↦ refl | CDEF ↦ refl | DTBL ↦ refl | BPCC ↦ refl | JP2 ↦ refl | RES ↦ refl | JP2I ↦ refl | XML ↦ refl | UUID ↦ refl | UINF ↦ refl | Unknown n ↦ refl ]
-
--- a kind whose tag is in a list is none of the names whose tags are not
-pub not_named : (ks : List ℕ) (k name : Jp2BoxType) → T (not (has_key ks (tag name))) → OneOf ks (tag_of the_type k) → tag k ≡ tag name → ⊥
-not_named ks k name t h e = miss ks (tag name) t (subst (OneOf ks) (tag_is k ∙ e) h)

@@ -1,9 +1,11 @@
 // The kinds of box (consts.rs).
+#![tactic(auto)]
+
 ghost use Rattle.std.specs.Prelude.{◌≡◌};
 ghost use Rattle.box_number.specs.Table.{holds};
 ghost use Rattle.box_kind.specs.Kind.{kind_of, number_of, is_file_header, is_image_header};
 
-#[derive(Drop)]
+#[derive(Clone, Copy)]
 pub enum Jp2BoxType {
     None,
     JPIP,

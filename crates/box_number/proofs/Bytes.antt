@@ -3,8 +3,8 @@
 use Prim.Native.Nat.{ℕ, zero, suc, ◌+◌, ◌-◌, ◌*◌, ◌/◌, ◌%◌, ◌^◌, ◌≤◌, ◌<◌}
 use native.Mathlib.Nat.{mod-one, pow-suc, one-le-pow, div-add-mod', mod-lt, mod-eq_of_lt, mul-add-mod_self_right}
 use native.Mathlib.Omega.{arith}
-use mathlib.Core.Path.{◌≡◌, refl, sym, ap, ◌∙◌}
-use mathlib.Core.List.{List, [], ◌∷◌, ◌++◌, append_assoc}
+use mathlib.Core.Path.{◌≡◌, refl, sym, ap, subst, ◌∙◌}
+use mathlib.Core.List.{List, ◌∷◌, ◌++◌, append_assoc}
 use lib.ListN.{length, take, drop, set, length-append}
 use lib.Seq.{get_or_at, length-take-le}
 use Rattle.box_number.specs.Number.{number, bytes, placed, written, NumberReadBack}
@@ -50,9 +50,10 @@ number-bytes : (p q : List ℕ) (n v : ℕ) → number (p ++ bytes n v ++ q) (le
 unfolding number bytes
 number-bytes p q zero v = sym (mod-one v)
 number-bytes p q (suc n) v =
-    let e : (p ++ (bytes n (v / 256) ++ (v % 256 ∷ [])) ++ q) ≡ p ++ bytes n (v / 256) ++ (v % 256 ∷ q) = simp append_assoc in
+    let e : (p ++ bytes (suc n) v ++ q) ≡ p ++ bytes n (v / 256) ++ (v % 256 ∷ q) = simp append_assoc in
     let l : length (p ++ bytes n (v / 256)) ≡ length p + n = simp (length-append, length-bytes) in
-    rw (e, number-bytes p (v % 256 ∷ q) n (v / 256), get_or_at (p ++ bytes n (v / 256)) (v % 256) q 0 (length p + n) l, pow-suc) (mod_step v (256 ^ n) (one-le-pow n 256 (omega arith)))
+    let g : number (p ++ bytes n (v / 256) ++ (v % 256 ∷ q)) (length p) (suc n) ≡ v % 256 ^ suc n = rw (number-bytes p (v % 256 ∷ q) n (v / 256), get_or_at (p ++ bytes n (v / 256)) (v % 256) q 0 (length p + n) l, pow-suc) (mod_step v (256 ^ n) (one-le-pow n 256 (omega arith))) in
+    subst (λ (x : List ℕ). number x (length p) (suc n) ≡ v % 256 ^ suc n) (sym e) g
 
 pub number_read_back : NumberReadBack
 unfolding placed

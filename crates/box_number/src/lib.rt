@@ -1,5 +1,7 @@
 // Numbers of 1 to 4 bytes, big-endian (cio.rs), and parts of a slice. Nothing here can fail: a byte past the end counts as 0, and a number that
 // has no room is not written.
+#![tactic(auto)]
+
 ghost use Rattle.std.specs.Prelude.{◌+◌, ◌≡◌};
 ghost use Rattle.box_number.specs.Table.{holds};
 ghost use Rattle.box_number.specs.Number.{number, part, least, fits, written, lies_outside};

@@ -1,4 +1,6 @@
-// The entries for callers from C and Rust: plain lists and numbers. Each entry answers 0 or document 01's number; 30 where the list for its numbers is too short, and then it does nothing.
+// The entries for callers from C and Rust: plain lists and numbers. The crate `cuzhantir_c` exports them to C. Each entry answers 0 or document 01's number; 30 where the list for its numbers is too short, and then it does nothing.
+#![tactic(auto)]
+
 ghost use Rattle.std.specs.Prelude.{◌≡◌, length};
 ghost use Rattle.box_number.specs.Number.{placed};
 ghost use Rattle.read_record.specs.Record.{blank};
@@ -31,8 +33,7 @@ const TOO_SHORT: u32 = 30;
 
 // Reads a file and gives the 44 numbers of its reading. Where reading has no room for them nothing is done.
 // The last clause is request R-1: where the file was broken off, the numbers agree with the whole file.
-#[unsafe(no_mangle)]
-pub extern "C" fn cuzhantir_read(file: &[u8], reading: &mut [u64]) -> u32
+pub fn cuzhantir_read(file: &[u8], reading: &mut [u64]) -> u32
     ensures value { result ≡ room reading_length reading.old 30 (refusal_number (jp2.reading blank (jp2.read file.now)).answer) }
     ensures reading_after { reading.new ≡ room reading_length reading.old reading.old (placed reading.old 0 (numbers (jp2.reading blank (jp2.read file.now)))) }
     ensures cut_told { CutTold file.now reading.old reading.new }
@@ -69,8 +70,7 @@ pub extern "C" fn cuzhantir_read(file: &[u8], reading: &mut [u64]) -> u32
 
 // Reads a file, finishes its picture and gives the 4 numbers of the answer. Where answer has no room for them nothing is done. The flag edition2 picks the edition of the camera rules: 0 is edition 1, any other number edition 2.
 // The last clause is demand 3: where the answer is "done", every sample of the finished planes in the destinations is the right one, in whatever order the file has its definitions; and in edition 2 every mark is its own channel's.
-#[unsafe(no_mangle)]
-pub extern "C" fn cuzhantir_picture(
+pub fn cuzhantir_picture(
     file: &[u8],
     ignore: u32,
     edition2: u32,
@@ -100,8 +100,7 @@ pub extern "C" fn cuzhantir_picture(
 
 // Finishes a picture whose file was read before: reading has the 44 numbers of that reading. It gives the 4 numbers of the answer; where answer has no room for them nothing is done.
 // The last clause is demand 3, as for both in one step, where reading begins with the numbers that `cuzhantir_read` gives for this file.
-#[unsafe(no_mangle)]
-pub extern "C" fn cuzhantir_finish(
+pub fn cuzhantir_finish(
     file: &[u8],
     reading: &[u64],
     ignore: u32,
@@ -129,8 +128,7 @@ pub extern "C" fn cuzhantir_finish(
 }
 
 // Writes all boxes before a codestream of the given length and the header of its box, and gives the 4 numbers of the answer. Where answer has no room for them nothing is done.
-#[unsafe(no_mangle)]
-pub extern "C" fn cuzhantir_write(
+pub fn cuzhantir_write(
     comps: &[u32],
     count: u32,
     x0: u32,

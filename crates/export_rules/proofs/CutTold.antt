@@ -9,7 +9,6 @@ use lib.Seq.{get_or-take}
 use Rattle.box_number.specs.Number.{placed}
 use Rattle.read_record.specs.declared.Jp2.{Jp2}
 use Rattle.read_record.specs.Record.{blank}
-use Rattle.read_rules.specs.declared.Reading.{Reading}
 use Rattle.read_jp2h.specs.Split.{Boxes}
 use Rattle.read_rules.specs.File.{Walked, ended, read, reading}
 use Rattle.read_rules.specs.CutTransfers.{CutShort, as_whole, ended_with, four_at}

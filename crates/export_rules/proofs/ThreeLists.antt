@@ -4,11 +4,10 @@ use Prim.Native.Nat.{ℕ, zero, suc, ◌+◌}
 use mathlib.Core.Path.{◌≡◌, refl, sym, ap, ◌∙◌, fun_ext}
 use mathlib.Core.List.{List, ◌++◌}
 use lib.IntN.{ℤ}
-use Rattle.box_number.specs.Table.{◌=?◌, ◌and◌, otherwise, ◌⇒◌∣◌}
+use Rattle.box_number.specs.Table.{◌=?◌, otherwise, ◌⇒◌∣◌}
 use Rattle.box_number.proofs.Rows.{row, each}
 use Rattle.read_record.specs.declared.Jp2.{Jp2}
 use Rattle.read_record.specs.Record.{blank, span, palette, with_pclr, with_cmap, with_cdef}
-use Rattle.read_channels.specs.Definitions.{definitions}
 use Rattle.picture_rules.specs.Image.{Image, size}
 use Rattle.picture_rules.specs.Channels.{channels, component_of, type_of}
 use Rattle.picture_rules.specs.Samples.{value_of, channel_samples, packed, start_of}

@@ -2,7 +2,7 @@
 use crate::say;
 use crate::say::{field, note, pair};
 
-#[derive(Drop)]
+#[derive(Clone, Copy)]
 pub enum Item {
     Code,
     Component,
@@ -12,105 +12,108 @@ pub enum Item {
 }
 
 // Item i of a list, whose bytes c begins with.
-pub(crate) fn show(json: bool, item: Item, i: usize, c: &[u8]) {
-    comma(json, i);
+pub(crate) fn show(rt: &impl Print, json: bool, item: Item, i: usize, c: &[u8]) {
+    comma(rt, json, i);
     match item {
-        Item::Code => code(json, c),
-        Item::Component => component(json, i, c),
-        Item::Column => column(json, i, c),
-        Item::Mapping => mapping(json, i, c),
-        Item::Definition => definition(json, c),
+        Item::Code => code(rt, json, c),
+        Item::Component => component(rt, json, i, c),
+        Item::Column => column(rt, json, i, c),
+        Item::Mapping => mapping(rt, json, i, c),
+        Item::Definition => definition(rt, json, c),
     }
 }
 
 // The comma before item i of a list of JSON.
-pub(crate) fn comma(json: bool, i: usize) {
+pub(crate) fn comma(rt: &impl Print, json: bool, i: usize) {
     if i != 0 {
-        say::text(json, b"|,");
+        say::text(rt, json, b"|,");
     }
 }
 
 // The four letters of a brand.
-pub(crate) fn code(json: bool, c: &[u8]) {
-    say::text(json, b" '|\"");
-    say::quoted(json, box_number::part(c, 0, 4));
-    say::text(json, b"'|\"");
+pub(crate) fn code(rt: &impl Print, json: bool, c: &[u8]) {
+    say::text(rt, json, b" '|\"");
+    say::quoted(rt, json, box_number::part(c, 0, 4));
+    say::text(rt, json, b"'|\"");
 }
 
-fn component(json: bool, i: usize, c: &[u8]) {
+fn component(rt: &impl Print, json: bool, i: usize, c: &[u8]) {
     let b = box_number::read_u8(c, 0) as usize;
-    field(json, b"\n    component #: |", i);
-    field(json, b"# (|#", b);
-    depth(json, b);
+    field(rt, json, b"\n    component #: |", i);
+    field(rt, json, b"# (|#", b);
+    depth(rt, json, b);
 }
 
-fn column(json: bool, i: usize, c: &[u8]) {
+fn column(rt: &impl Print, json: bool, i: usize, c: &[u8]) {
     let b = box_number::read_u8(c, 0) as u32;
-    field(json, b"\n    B #: |{\"B\":", i);
-    pair(json, b"# (# bits, |#,\"bits\":#", b, b % 128 + 1);
-    field(json, b"|,\"sign\":#}", (b / 128) as usize);
-    sign(json, (b / 128) as usize);
+    field(rt, json, b"\n    B #: |{\"B\":", i);
+    pair(rt, json, b"# (# bits, |#,\"bits\":#", b, b % 128 + 1);
+    field(rt, json, b"|,\"sign\":#}", (b / 128) as usize);
+    sign(rt, json, (b / 128) as usize);
 }
 
 // What a byte of BPC or BPCC says, for people.
-pub(crate) fn depth(json: bool, b: usize) {
-    field(json, b"# bits, |", b % 128 + 1);
-    sign(json, b / 128);
+pub(crate) fn depth(rt: &impl Print, json: bool, b: usize) {
+    field(rt, json, b"# bits, |", b % 128 + 1);
+    sign(rt, json, b / 128);
 }
 
-fn sign(json: bool, sign: usize) {
-    note(json, sign, b"unsigned)\nsigned)\n");
+fn sign(rt: &impl Print, json: bool, sign: usize) {
+    note(rt, json, sign, b"unsigned)\nsigned)\n");
 }
 
-fn mapping(json: bool, i: usize, c: &[u8]) {
+fn mapping(rt: &impl Print, json: bool, i: usize, c: &[u8]) {
     let mtyp = box_number::read_u8(c, 2);
-    field(json, b"\n    channel #: |{", i);
+    field(rt, json, b"\n    channel #: |{", i);
     pair(
+        rt,
         json,
         b"CMP #, MTYP # (|\"CMP\":#,\"MTYP\":#",
         box_number::read_u16(c, 0) as u32,
         mtyp as u32,
     );
-    note(json, mtyp as usize, b"direct\npalette\n");
+    note(rt, json, mtyp as usize, b"direct\npalette\n");
     field(
+        rt,
         json,
         b"), PCOL #|,\"PCOL\":#}",
         box_number::read_u8(c, 3) as usize,
     );
 }
 
-fn definition(json: bool, c: &[u8]) {
+fn definition(rt: &impl Print, json: bool, c: &[u8]) {
     let typ = box_number::read_u16(c, 2);
     let asoc = box_number::read_u16(c, 4);
     pair(
+        rt,
         json,
         b"\n    Cn #, Typ # (|{\"Cn\":#,\"Typ\":#",
         box_number::read_u16(c, 0) as u32,
         typ as u32,
     );
-    channel(json, typ as usize);
-    field(json, b"), Asoc # (|,\"Asoc\":#}", asoc as usize);
-    association(json, asoc as usize);
+    channel(rt, json, typ as usize);
+    field(rt, json, b"), Asoc # (|,\"Asoc\":#}", asoc as usize);
+    association(rt, json, asoc as usize);
 }
 
 // Typ.
-fn channel(json: bool, typ: usize) {
+fn channel(rt: &impl Print, json: bool, typ: usize) {
     if typ == 65535 {
-        say::text(json, b"unspecified|");
+        say::text(rt, json, b"unspecified|");
         return;
     }
-    note(json, typ, b"colour\nopacity\npremultiplied opacity\n");
+    note(rt, json, typ, b"colour\nopacity\npremultiplied opacity\n");
 }
 
 // Asoc.
-fn association(json: bool, asoc: usize) {
+fn association(rt: &impl Print, json: bool, asoc: usize) {
     if asoc == 0 {
-        say::text(json, b"whole image)|");
+        say::text(rt, json, b"whole image)|");
         return;
     }
     if asoc == 65535 {
-        say::text(json, b"unassociated)|");
+        say::text(rt, json, b"unassociated)|");
         return;
     }
-    field(json, b"colour #)|", asoc);
+    field(rt, json, b"colour #)|", asoc);
 }

@@ -6,32 +6,40 @@ use crate::{items, lists, say};
 use read_record::{Colour, FileType, Image, Jp2, Lab, Palette, Span};
 use read_rules::{FileAnswer, Reading};
 
-pub(crate) fn reading(json: bool, name: &[u8], file: &[u8], r: Reading) {
-    text(json, b"|{\"file\":\"");
-    say::quoted(json, name);
-    outcome(json, file, r);
-    say::end(json);
+pub(crate) fn reading(
+    rt: &impl Print,
+    err: &impl Print,
+    json: bool,
+    name: &[u8],
+    file: &[u8],
+    r: Reading,
+) {
+    text(rt, json, b"|{\"file\":\"");
+    say::quoted(rt, json, name);
+    outcome(rt, json, file, r);
+    say::end(rt, err, json);
 }
 
 // Where reading ended comes before the record in JSON, and after it for people.
-fn outcome(json: bool, file: &[u8], r: Reading) {
+fn outcome(rt: &impl Print, json: bool, file: &[u8], r: Reading) {
     let answer = r.answer;
     if let FileAnswer::Refused(n, place) = answer {
-        refused(json, n, place);
+        refused(rt, json, n, place);
         return;
     }
     if json {
-        codestream(json, answer);
-        record(json, file, r.jp2);
+        codestream(rt, json, answer);
+        record(rt, json, file, r.jp2);
         return;
     }
-    record(json, file, r.jp2);
-    codestream(json, answer);
+    record(rt, json, file, r.jp2);
+    codestream(rt, json, answer);
 }
 
-fn codestream(json: bool, answer: FileAnswer) {
+fn codestream(rt: &impl Print, json: bool, answer: FileAnswer) {
     if let FileAnswer::Codestream(offset) = answer {
         field(
+            rt,
             json,
             b"\n  codestream: at #|\",\"answer\":\"codestream\",\"codestream\":#",
             offset as usize,
@@ -39,19 +47,22 @@ fn codestream(json: bool, answer: FileAnswer) {
         return;
     }
     text(
+        rt,
         json,
         b"\n  codestream: none, ended|\",\"answer\":\"ended\",\"codestream\":null",
     );
 }
 
 // Why a file is refused, from 0: the numbers 1 to 24 of document 01's table.
-fn refused(json: bool, n: u32, place: u32) {
+fn refused(rt: &impl Print, json: bool, n: u32, place: u32) {
     field(
+        rt,
         json,
         b"\n  refused: #, |\",\"answer\":\"refused\",\"number\":#,\"cause\":\"",
         n as usize,
     );
     word(
+        rt,
         n as usize,
         b"\n\
         file over 4294967295 bytes\n\
@@ -79,24 +90,33 @@ fn refused(json: bool, n: u32, place: u32) {
         cdef under 2 bytes or short\n\
         cdef count 0\n",
     );
-    field(json, b", box at #|\",\"place\":#", place as usize);
+    field(rt, json, b", box at #|\",\"place\":#", place as usize);
 }
 
-fn record(json: bool, file: &[u8], jp2: Jp2) {
+fn record(rt: &impl Print, json: bool, file: &[u8], jp2: Jp2) {
     let l = jp2.lists;
-    filetype(json, file, jp2.filetype, l.cl);
-    image(json, jp2.image);
+    filetype(rt, json, file, jp2.filetype, l.cl);
+    image(rt, json, jp2.image);
     lists::list(
+        rt,
         json,
         b"\n  BPCC:|,\"bpcc\":[",
         Item::Component,
         file,
         l.bpcc,
     );
-    colour(json, jp2.colour, l.icc);
-    pclr(json, file, l.pclr);
-    lists::list(json, b"\n  cmap:|,\"cmap\":[", Item::Mapping, file, l.cmap);
+    colour(rt, json, jp2.colour, l.icc);
+    pclr(rt, json, file, l.pclr);
     lists::list(
+        rt,
+        json,
+        b"\n  cmap:|,\"cmap\":[",
+        Item::Mapping,
+        file,
+        l.cmap,
+    );
+    lists::list(
+        rt,
         json,
         b"\n  cdef:|,\"cdef\":[",
         Item::Definition,
@@ -106,122 +126,136 @@ fn record(json: bool, file: &[u8], jp2: Jp2) {
 }
 
 // Where brand, version and list are 0, there was no ftyp box, or one of zeros.
-fn filetype(json: bool, file: &[u8], t: FileType, cl: Span) {
+fn filetype(rt: &impl Print, json: bool, file: &[u8], t: FileType, cl: Span) {
     if (cl.count | t.brand as usize | t.minversion as usize) == 0 {
-        text(json, b"\n  ftyp: none|,\"ftyp\":null");
+        text(rt, json, b"\n  ftyp: none|,\"ftyp\":null");
         return;
     }
-    text(json, b"\n  BR:|,\"ftyp\":{\"BR\":");
-    brand(json, t.brand);
+    text(rt, json, b"\n  BR:|,\"ftyp\":{\"BR\":");
+    brand(rt, json, t.brand);
     field(
+        rt,
         json,
         b"\n  MinV: #\n  CL:|,\"MinV\":#",
         t.minversion as usize,
     );
-    lists::list(json, b"|,\"CL\":[", Item::Code, file, cl);
-    text(json, b"|}");
+    lists::list(rt, json, b"|,\"CL\":[", Item::Code, file, cl);
+    text(rt, json, b"|}");
 }
 
-fn brand(json: bool, n: u32) {
+fn brand(rt: &impl Print, json: bool, n: u32) {
     let mut letters = [0u8; 4];
     box_number::opj_write_bytes(&mut letters, 0, n, 4);
-    items::code(json, &letters);
+    items::code(rt, json, &letters);
 }
 
-fn image(json: bool, image: Image) {
+fn image(rt: &impl Print, json: bool, image: Image) {
     if image.numcomps == 0 {
-        text(json, b"\n  ihdr: none|,\"ihdr\":null");
+        text(rt, json, b"\n  ihdr: none|,\"ihdr\":null");
         return;
     }
     pair(
+        rt,
         json,
         b"\n  HEIGHT: #\n  WIDTH: #|,\"ihdr\":{\"HEIGHT\":#,\"WIDTH\":#",
         image.h,
         image.w,
     );
     pair(
+        rt,
         json,
         b"\n  NC: #\n  BPC: # (|,\"NC\":#,\"BPC\":#",
         image.numcomps,
         image.bpc,
     );
-    bpc(json, image.bpc);
+    bpc(rt, json, image.bpc);
     pair(
+        rt,
         json,
         b"\n  C: #\n  UnkC: #|,\"C\":#,\"UnkC\":#",
         image.c,
         image.unkc,
     );
-    field(json, b"\n  IPR: #|,\"IPR\":#}", image.ipr as usize);
+    field(rt, json, b"\n  IPR: #|,\"IPR\":#}", image.ipr as usize);
 }
 
-fn bpc(json: bool, b: u32) {
+fn bpc(rt: &impl Print, json: bool, b: u32) {
     if b == 255 {
-        text(json, b"the components differ)|");
+        text(rt, json, b"the components differ)|");
         return;
     }
-    items::depth(json, b as usize);
+    items::depth(rt, json, b as usize);
 }
 
 // Where all that every method has is 0, there was no colr box, or one of zeros.
-fn colour(json: bool, colour: Colour, icc: Span) {
+fn colour(rt: &impl Print, json: bool, colour: Colour, icc: Span) {
     if (colour.held | colour.meth | colour.precedence | colour.approx) == 0 {
-        text(json, b"\n  colr: none|,\"colr\":null");
+        text(rt, json, b"\n  colr: none|,\"colr\":null");
         return;
     }
-    method(json, colour.meth);
+    method(rt, json, colour.meth);
     pair(
+        rt,
         json,
         b"\n  PREC: #\n  APPROX: #|,\"PREC\":#,\"APPROX\":#",
         colour.precedence,
         colour.approx,
     );
-    content(json, colour, icc);
-    text(json, b"|}");
+    content(rt, json, colour, icc);
+    text(rt, json, b"|}");
 }
 
-fn method(json: bool, meth: u32) {
-    field(json, b"\n  METH: # (|,\"colr\":{\"METH\":#", meth as usize);
+fn method(rt: &impl Print, json: bool, meth: u32) {
+    field(
+        rt,
+        json,
+        b"\n  METH: # (|,\"colr\":{\"METH\":#",
+        meth as usize,
+    );
     note(
+        rt,
         json,
         meth as usize,
         b"\n\
         enumerated colour space\n\
         ICC profile\n",
     );
-    text(json, b")|");
+    text(rt, json, b")|");
 }
 
-fn content(json: bool, colour: Colour, icc: Span) {
+fn content(rt: &impl Print, json: bool, colour: Colour, icc: Span) {
     if colour.meth == 1 {
-        space(json, colour.enumcs);
-        lab(json, colour.lab);
+        space(rt, json, colour.enumcs);
+        lab(rt, json, colour.lab);
         return;
     }
     if colour.meth == 2 {
-        profile(json, icc.place, icc.count);
+        profile(rt, json, icc.place, icc.count);
     }
 }
 
 // For people the size comes first.
-fn profile(json: bool, place: usize, size: usize) {
+fn profile(rt: &impl Print, json: bool, place: usize, size: usize) {
     field(
+        rt,
         json,
         b"\n  PROFILE: # bytes at |,\"PROFILE\":{\"place\":",
         size,
     );
-    field(json, b"#|#", place);
-    field(json, b"|,\"size\":#}", size);
+    field(rt, json, b"#|#", place);
+    field(rt, json, b"|,\"size\":#}", size);
 }
 
 // EnumCS, from 0: I.5.3.3, and Annex M of ISO/IEC 15444-2.
-fn space(json: bool, enumcs: u32) {
+fn space(rt: &impl Print, json: bool, enumcs: u32) {
     field(
+        rt,
         json,
         b"\n  EnumCS: # (|,\"EnumCS\":#,\"space\":\"",
         enumcs as usize,
     );
     word(
+        rt,
         enumcs as usize,
         b"bi-level\n\
         YCbCr(1)\n\
@@ -239,28 +273,28 @@ fn space(json: bool, enumcs: u32) {
         YCCK\n\
         CIELab\n\
         bi-level(2)\n\
-        srgb\n\
+        sRGB\n\
         greyscale\n\
-        sycc\n\
+        sYCC\n\
         CIEJab\n\
-        e-srgb\n\
+        e-sRGB\n\
         ROMM-RGB\n\
         YPbCr(1125/60)\n\
         YPbCr(1250/50)\n\
-        e-sycc\n",
+        e-sYCC\n",
     );
-    text(json, b")|\"");
+    text(rt, json, b")|\"");
 }
 
 // The numbers of CIELab, as many of them as count.
-fn lab(json: bool, l: Lab) {
+fn lab(rt: &impl Print, json: bool, l: Lab) {
     if l.count == 0 {
         return;
     }
-    text(json, b"\n  CIELab: |,\"CIELab\":[");
+    text(rt, json, b"\n  CIELab: |,\"CIELab\":[");
     let numbers = l.numbers;
-    say::join(json, first(&numbers, l.count as usize));
-    text(json, b"|]");
+    say::join(rt, json, first(&numbers, l.count as usize));
+    text(rt, json, b"|]");
 }
 
 fn first(numbers: &[u32], n: usize) -> &[u32] {
@@ -270,19 +304,20 @@ fn first(numbers: &[u32], n: usize) -> &[u32] {
     &numbers[..n]
 }
 
-fn pclr(json: bool, file: &[u8], p: Palette) {
+fn pclr(rt: &impl Print, json: bool, file: &[u8], p: Palette) {
     if p.columns == 0 {
-        text(json, b"|,\"pclr\":null");
+        text(rt, json, b"|,\"pclr\":null");
         return;
     }
     pair(
+        rt,
         json,
         b"\n  pclr: NE #, NPC #|,\"pclr\":{\"NE\":#,\"NPC\":#,\"columns\":[",
         p.entries,
         p.columns,
     );
-    lists::columns(json, file, p);
-    text(json, b"|],\"entries\":[");
-    lists::entries(json, file, p);
-    text(json, b"|]}");
+    lists::columns(rt, json, file, p);
+    text(rt, json, b"|],\"entries\":[");
+    lists::entries(rt, json, file, p);
+    text(rt, json, b"|]}");
 }

@@ -1,7 +1,6 @@
 // What --help prints.
-pub(crate) fn usage(fd: i32) {
-    io::write_all(
-        fd,
+pub(crate) fn usage(out: &impl Print) {
+    let _ = out.write_all(
         b"usage: jp2info [--json] FILE..\n\
         \n\
         Prints what the boxes of each JP2 file say, up to the codestream, a field a line.\n\

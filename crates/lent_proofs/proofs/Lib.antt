@@ -1,7 +1,2 @@
-pub mod Whole
 pub mod Lent
-pub mod LentFile
-pub mod Lend
-pub mod LendFile
 pub mod Swap
-pub mod Store

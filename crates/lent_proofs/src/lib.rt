@@ -1,1 +1,2 @@
-// Proofs alone, no code: the steps by which the functions over a lent record or list of records, and those that lend one, are proved, over any record and any answer.
+// Proofs alone, no code: what the proofs over a lent record and over a lent list of records share, whatever the records are.
+#![tactic(auto)]

@@ -1,4 +1,6 @@
 // All checks of a picture before any plane is written (`opj_jp2_check_color` of jp2.rs): numbers 29 and 25 to 28.
+#![tactic(auto)]
+
 ghost use Rattle.std.specs.Prelude.{◌≡◌};
 ghost use Rattle.picture_rules.specs.Image.{image};
 ghost use Rattle.picture_rules.specs.Channels.{channels};
@@ -12,7 +14,7 @@ mod definitions;
 mod mappings;
 
 // What the checks answer: how many channels there are and whether the mappings are to be corrected, or document 01's number and the index.
-#[derive(Drop)]
+#[derive(Clone, Copy)]
 pub enum Checked {
     Passed(u32, bool),
     Refused(u32, u32),

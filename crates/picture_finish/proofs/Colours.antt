@@ -6,7 +6,6 @@ use mathlib.Core.Path.{◌≡◌, refl, sym, ap, ◌∙◌}
 use mathlib.Core.List.{List}
 use lib.IntN.{ℤ}
 use lib.ListN.{length, length-append}
-use Rattle.box_number.specs.Table.{◌and◌}
 use Rattle.read_record.specs.declared.Jp2.{Jp2}
 use Rattle.read_channels.specs.Definitions.{definitions}
 use Rattle.picture_rules.specs.Order.{arranged}

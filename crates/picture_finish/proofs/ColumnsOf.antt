@@ -7,7 +7,7 @@ use mathlib.Core.Bool.{false}
 use mathlib.Core.List.{List}
 use lib.IntN.{ℤ}
 use lib.ListN.{length}
-use Rattle.box_number.specs.Table.{◌=?◌, ◌and◌}
+use Rattle.box_number.specs.Table.{◌=?◌}
 use Rattle.box_number.specs.Number.{number, part}
 use Rattle.box_number.proofs.Rows.{Says}
 use Rattle.box_number.proofs.Indices.{decide}

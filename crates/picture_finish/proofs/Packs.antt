@@ -123,7 +123,7 @@ module _ (f : List ℕ) (m : Jp2) (comps : List ℕ) (count : ℕ) (samples : Li
       held h k l = within f m comps count samples correct flags tested n roomy.all k (omega arith)
 
       pub packed-records : c ≤ n → length records ≡ length records₀
-      packed-records h = ap length p.numbers ∙ front_length (flat (expanded f m j) (13 * c)) records₀ (omega (arith, flat-length (expanded f m j) (13 * c), roomy.record-room))
+      packed-records h = ap length p.numbers ∙ front_length (flat (expanded f m j) (13 * c)) records₀ (omega (arith, flat-length (expanded f m j) (13 * c), roomy.record_room))
 
       pub packed-planes : c ≤ n → length planes ≡ length planes₀
       packed-planes h = ap length p.samples ∙ front_length (packed f m j c) planes₀ (omega (arith, packed-length f m j c (held h), roomy.sample-room, start-more f m j c n h))

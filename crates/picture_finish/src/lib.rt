@@ -1,5 +1,7 @@
 // Finishing a picture (`opj_jp2_apply_color_postprocessing` of jp2.rs): its channels, from the palette where there is one, as planes in the order of their colours.
 // All tests come first; the two destinations are written after the last of them, each channel in one pass.
+#![tactic(auto)]
+
 ghost use Rattle.std.specs.Prelude.{ℕ, ◌*◌, ◌≤◌, ◌≡◌, length, false};
 ghost use Rattle.box_number.specs.Table.{◌and◌, holds, Says};
 ghost use Rattle.read_record.specs.Component.{numbers_each};

@@ -3,10 +3,7 @@ pub mod Agreement
 pub mod Deciding
 pub mod Listing
 pub mod Fronts
-pub mod Again
-pub mod Records
 pub mod Numbered
-pub mod Going
 pub mod Checking
 pub mod Agreeing
 pub mod Exact

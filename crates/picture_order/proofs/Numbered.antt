@@ -5,9 +5,10 @@ use mathlib.Core.Path.{◌≡◌, refl, ap, sym, ◌∙◌, subst}
 use mathlib.Core.Bool.{Bool, true, false}
 use mathlib.Core.List.{List, [], ◌∷◌, ◌++◌}
 use native.Mathlib.Omega.{arith}
-use native.Mathlib.Decide.{ℕ_discrete}
-use lib.ListN.{length, get_or, set, length-set, length-append, get_or-append, get_or-replicate}
-use lib.Seq.{get_or-set_same, get_or-set_other, get_or-append-add}
+use lib.ListN.{length, get_or, set, length-append, get_or-append, get_or-replicate}
+use lib.Seq.{get_or-append-add}
+use Rattle.std.proofs.lemmas.List.{set-get_or}
+use Rattle.lent_proofs.proofs.Swap.{length-swapped, swapped-first, swapped-second, swapped-other}
 use Rattle.read_channels.specs.Definitions.{definition}
 use Rattle.picture_rules.specs.Order.{exchange, define}
 use Rattle.picture_rules.proofs.Exchange
@@ -34,24 +35,12 @@ numbered-at (c ∷ cs) (suc r) k h =
     let e : 13 * suc r + k ≡ 13 + (13 * r + k) = omega arith in
     ap (λ i. get_or (numbers_of c ++ numbered cs) i 0) e ∙ get_or-append-add (numbers_of c) (numbered cs) (13 * r + k) 0 ∙ numbered-at cs r k h
 
-pub swapped-length : (l : List Comp) (i j : ℕ) → length (swapped_records l i j) ≡ length l
-swapped-length l i j = length-set (set l i (get_or l j no_record)) j (get_or l i no_record) ∙ length-set l i (get_or l j no_record)
-
 get_or-swapped : (l : List Comp) (a b i : ℕ) → a < length l → b < length l → get_or (swapped_records l a b) i no_record ≡ get_or l (exchange a b i) no_record
 get_or-swapped l a b i ha hb =
     Exchange.cases (λ x. get_or (swapped_records l a b) i no_record ≡ get_or l x no_record) a b i
-    (λ e. one e (ℕ_discrete i b))
-    (λ e. rw e last)
-    (λ e f. get_or-set_other (set l a (get_or l b no_record)) b i (get_or l a no_record) no_record f ∙ get_or-set_other l a i (get_or l b no_record) no_record e)
-  where
-    last : get_or (swapped_records l a b) b no_record ≡ get_or l a no_record
-    last = get_or-set_same (set l a (get_or l b no_record)) b (get_or l a no_record) no_record (rw (length-set l a (get_or l b no_record)) hb)
-
-    one : i ≡ a → Dec (i ≡ b) → get_or (swapped_records l a b) i no_record ≡ get_or l b no_record
-    one e (yes f) = ap (λ x. get_or (swapped_records l a b) x no_record) f ∙ last ∙ ap (λ x. get_or l x no_record) (sym e ∙ f)
-    one e (no f) =
-        get_or-set_other (set l a (get_or l b no_record)) b i (get_or l a no_record) no_record f ∙ ap (λ x. get_or (set l a (get_or l b no_record)) x no_record) e
-        ∙ get_or-set_same l a (get_or l b no_record) no_record ha
+    (swapped-first no_record l a b i ha hb)
+    (swapped-second no_record l a b i hb)
+    (swapped-other no_record l a b i)
 
 pub swapped-numbered : (l : List Comp) (p q : ℕ) → p < length l → q < length l → Exchanged p q (numbered l) (numbered (swapped_records l p q))
 swapped-numbered l p q hp hq =
@@ -65,22 +54,16 @@ marked-numbered (c ∷ l) (suc p) t h =
     let e : 13 * suc p + 12 ≡ suc (suc (suc (suc (suc (suc (suc (suc (suc (suc (suc (suc (suc (13 * p + 12))))))))))))) = omega arith in
     ap (λ x. numbers_of c ++ x) (marked-numbered l p t (omega arith)) ∙ sym (ap (λ i. set (numbers_of c ++ numbered l) i t) e)
 
--- what is stored where it already is changes nothing
-pub set_self : (l : List Comp) (i : ℕ) → set l i (get_or l i no_record) ≡ l
-set_self [] i = refl
-set_self (c ∷ l) zero = refl
-set_self (c ∷ l) (suc i) = ap (λ x. c ∷ x) (set_self l i)
-
 -- a record that is marked, or stored as it is
 pub marked_if : (l : List Comp) (p t : ℕ) (on : Bool) → p < length l → numbered (marked_records l p t on) ≡ mark_if (numbered l) p t on
 marked_if l p t true h = marked-numbered l p t h
-marked_if l p t false h = ap numbered (set_self l p)
+marked_if l p t false h = ap numbered (set-get_or l p no_record)
 
 -- records that are exchanged and marked as a definition asks
 pub stepped : (f : List ℕ) (run : Run) (k : ℕ) (positions positions' channels' : List ℕ) (r : Ask) (l : List Comp) → Decided f run k positions r positions' channels' → run.n ≤ length l → Stepped f run k (numbered l) positions (numbered (after_ask r l)) positions' channels'
 stepped f run k positions positions' channels' r l e h =
     let m = swapped_records l r.i r.j in
-    let long = swapped-length l r.i r.j in
+    let long = length-swapped no_record l r.i r.j in
     record {
       positioned = e.positioned;
       does = λ a g.

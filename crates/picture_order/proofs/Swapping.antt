@@ -5,8 +5,8 @@ use mathlib.Core.Path.{◌≡◌, refl, ap, sym, ◌∙◌}
 use mathlib.Core.List.{List}
 use native.Mathlib.Omega.{arith}
 use native.Mathlib.Decide.{ℕ_discrete}
-use lib.ListN.{length, get_or, set, length-set}
-use lib.Seq.{get_or-set_same, get_or-set_other}
+use lib.ListN.{length, get_or}
+use Rattle.lent_proofs.proofs.Swap.{swapped, length-swapped, swapped-first, swapped-second, swapped-other}
 use Rattle.picture_rules.specs.Order.{exchange}
 use Rattle.picture_order.specs.Flat.{number_at}
 use Rattle.picture_order.specs.Private.Steps.{Exchanged}
@@ -14,26 +14,14 @@ use Rattle.picture_rules.proofs.Exchange
 
 -- l with the elements at a and at b exchanged
 abbrev pub swap : List ℕ → ℕ → ℕ → List ℕ
-swap l a b = set (set l a (get_or l b 0)) b (get_or l a 0)
-
-pub length-swap : (l : List ℕ) (a b : ℕ) → length (swap l a b) ≡ length l
-length-swap l a b = length-set (set l a (get_or l b 0)) b (get_or l a 0) ∙ length-set l a (get_or l b 0)
+swap l a b = swapped 0 l a b
 
 pub get_or-swap : (l : List ℕ) (a b i : ℕ) → a < length l → b < length l → get_or (swap l a b) i 0 ≡ get_or l (exchange a b i) 0
 get_or-swap l a b i ha hb =
     Exchange.cases (λ x. get_or (swap l a b) i 0 ≡ get_or l x 0) a b i
-    (λ e. one e (ℕ_discrete i b))
-    (λ e. rw e last)
-    (λ e f. get_or-set_other (set l a (get_or l b 0)) b i (get_or l a 0) 0 f ∙ get_or-set_other l a i (get_or l b 0) 0 e)
-  where
-    last : get_or (swap l a b) b 0 ≡ get_or l a 0
-    last = get_or-set_same (set l a (get_or l b 0)) b (get_or l a 0) 0 (rw (length-set l a (get_or l b 0)) hb)
-
-    one : i ≡ a → Dec (i ≡ b) → get_or (swap l a b) i 0 ≡ get_or l b 0
-    one e (yes f) = ap (λ x. get_or (swap l a b) x 0) f ∙ last ∙ ap (λ x. get_or l x 0) (sym e ∙ f)
-    one e (no f) =
-        get_or-set_other (set l a (get_or l b 0)) b i (get_or l a 0) 0 f ∙ ap (λ x. get_or (set l a (get_or l b 0)) x 0) e
-        ∙ get_or-set_same l a (get_or l b 0) 0 ha
+    (swapped-first 0 l a b i ha hb)
+    (swapped-second 0 l a b i hb)
+    (swapped-other 0 l a b i)
 
 -- number k of two records exchanged: number k of a record is that of the exchanged one, and any other number stays
 spot : (p q k r : ℕ) → exchange (13 * p + k) (13 * q + k) (13 * r + k) ≡ 13 * exchange p q r + k
@@ -61,7 +49,7 @@ partly_none p q l = record { size = refl; past = λ r j h i. absurd (omega arith
 
 pub partly_more : (p q : ℕ) (l : List ℕ) (k : ℕ) (m : List ℕ) → k < 13 → 13 * p + 13 ≤ length l → 13 * q + 13 ≤ length l → Partly p q l k m → Partly p q l (k + 1) (swap m (13 * p + k) (13 * q + k))
 partly_more p q l k m hk hp hq w = record {
-  size = length-swap m _ _ ∙ w.size;
+  size = length-swapped 0 m _ _ ∙ w.size;
   past = λ r j h i. moved r j ∙ go r j h i (ℕ_discrete j k);
   left = λ r j h i. moved r j ∙ ap (λ x. get_or m x 0) (off p q k r j hk i (omega arith)) ∙ w.left r j (omega arith) i;
 }

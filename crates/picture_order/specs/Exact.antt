@@ -1,4 +1,4 @@
--- A promise `numbered (now cs.exit) ≡ ..` leaves one list of records.
+-- A promise `numbered cs.new ≡ ..` leaves one list of records.
 use Rattle.std.specs.Prelude.{◌≡◌, List}
 use Rattle.picture_order.specs.Comps.{numbered}
 use Rattle.picture_order.specs.declared.lent.Comp.{Comp}

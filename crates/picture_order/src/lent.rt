@@ -1,4 +1,4 @@
-// The order of a picture's planes over a lent list of component records (`opj_jp2_apply_cdef` of jp2.rs). Functions over `&mut [Comp]` are proved by hand, so the choices are made by `positions` and `task`.
+// The order of a picture's planes over a lent list of component records (`opj_jp2_apply_cdef` of jp2.rs). The choices are made by `positions` and `task`.
 ghost use Rattle.std.specs.Prelude.{◌≡◌, ◌+◌, ◌*◌, ◌≤◌, ◌<◌, get_or, length, set};
 ghost use Rattle.picture_order.specs.Flat.{answered, afterwards, reordered};
 ghost use Rattle.picture_order.specs.Comps.{mark_of, no_record, numbered, swapped_records};
@@ -9,7 +9,7 @@ use crate::task::Run;
 use read_record::Answer;
 
 // A component of a picture; `data` is the index of its first sample.
-#[derive(Drop)]
+#[derive(Clone, Copy)]
 pub struct Comp {
     pub dx: u32,
     pub dy: u32,

@@ -1,4 +1,6 @@
 // The order of a picture's planes (`opj_jp2_apply_cdef` of jp2.rs), over one lent list of thirteen numbers a record; `lent` has the same over a lent list of records.
+#![tactic(auto)]
+
 ghost use Rattle.std.specs.Prelude.{◌≡◌, ◌+◌, ◌*◌, ◌≤◌, ◌<◌, length};
 ghost use Rattle.picture_order.specs.Flat.{reordered, answered, afterwards};
 ghost use Rattle.picture_order.specs.Private.Steps.{Exchanged, Positioned, Runnable, Stepped, list_of, mark_if};
@@ -11,7 +13,7 @@ mod positions;
 mod task;
 
 // The definitions of a file as a reorder takes them: where they are in it, and by which edition of the camera rules they are run. 0 is edition 1, the crate's behaviour, and any other number edition 2.
-#[derive(Drop)]
+#[derive(Clone, Copy)]
 pub struct Definitions {
     pub cdef: Span,
     pub edition2: u32,
@@ -29,8 +31,8 @@ const MOST: usize = 16384;
 
 // Exchanges the records p and q.
 fn swap_records(recs: &mut [u32], p: usize, q: usize)
-    requires* p_bound { do ⌜ 13 * p + 13 ≤ (← ⟦recs.len()⟧) ⌝ }
-    requires* q_bound { do ⌜ 13 * q + 13 ≤ (← ⟦recs.len()⟧) ⌝ }
+    requires p_bound { 13 * p + 13 ≤ length recs.old }
+    requires q_bound { 13 * q + 13 ≤ length recs.old }
     ensures { Exchanged p q recs.old recs.new }
 {
     if p == q {
@@ -50,7 +52,7 @@ fn swap_records(recs: &mut [u32], p: usize, q: usize)
 
 // Stores the mark t in the record p if `on`.
 fn mark_if(recs: &mut [u32], p: usize, t: u16, on: bool)
-    requires* { do ⌜ 13 * p + 13 ≤ (← ⟦recs.len()⟧) ⌝ }
+    requires { 13 * p + 13 ≤ length recs.old }
     ensures { recs.new ≡ mark_if recs.old p t on }
 {
     if !on {

@@ -11,7 +11,7 @@ const DEFINITION_BYTES: usize = 6;
 const UNASSOCIATED: usize = 65535;
 
 // What a definition asks of the records: i and j change places, and then i takes the mark t if `on`.
-#[derive(Drop)]
+#[derive(Clone, Copy)]
 pub struct Ask {
     pub i: usize,
     pub j: usize,
@@ -43,7 +43,7 @@ pub fn begun() -> [u32; 16384]
 
 // Exchanges the positions of channel c, at position p, and of the channel at position q.
 fn swap_positions(positions: &mut [u32], channels: &mut [u32], c: usize, p: usize, q: usize)
-    requires* fact { do ⌜ (c < 16384) × (p < 16384) × (q < 16384) ⌝ }
+    requires small { (c < 16384) × (p < 16384) × (q < 16384) }
     requires c_in_bounds { (c < length positions.old) × (get_or channels.old q 0 < length positions.old) }
     requires p_in_bounds { (p < length channels.old) × (q < length channels.old) }
     ensures positions_after { positions.new ≡ set (set positions.old c q) (get_or channels.old q 0) p }

@@ -9,7 +9,7 @@ use read_record::Answer;
 pub const MOST_COMPONENTS: u32 = 16384;
 
 // A run of the definitions of a list at a place of the file over the first n records, by the rules of an edition.
-#[derive(Drop)]
+#[derive(Clone, Copy)]
 pub struct Run {
     pub place: usize,
     pub n: usize,
@@ -18,7 +18,7 @@ pub struct Run {
 }
 
 // An answer, and the run to make.
-#[derive(Drop)]
+#[derive(Clone, Copy)]
 pub struct Task {
     pub answer: Answer,
     pub run: Run,

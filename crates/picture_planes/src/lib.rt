@@ -1,4 +1,6 @@
 // Planes of samples (`opj_jp2_apply_pclr` of jp2.rs): copied, or looked up in a column of a palette, from one list of samples to another.
+#![tactic(auto)]
+
 ghost use Rattle.std.specs.Prelude.{◌<◌, ◌≤◌, ◌+◌, ◌≡◌, map, pos, length, get_or, set};
 ghost use Rattle.box_number.specs.Table.{◌or◌, holds};
 ghost use Rattle.box_number.specs.Number.{placed};
@@ -19,7 +21,7 @@ const MOST_BYTES: u32 = 4;
 const SIGN_BIT: u32 = 0x8000_0000;
 
 // A column of entries in a list of bytes: the place of its first entry, the bytes from one entry to the next, the bytes of an entry, and how many entries there are.
-#[derive(Drop)]
+#[derive(Clone, Copy)]
 pub struct Column {
     pub place: u32,
     pub step: u32,

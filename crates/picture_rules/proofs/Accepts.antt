@@ -50,7 +50,7 @@ module _ (h : Handed) (g : List ℕ) (m : Jp2) (a : Agree h.file g m) where
         defined = λ x l. defined-same a h.settings.edition2 x (c.defined x l);
         mapping = λ x l. rw (a.mappings.component x l, a.mappings.type x l, a.mappings.column x l) (c.mapping x l);
         lent = λ x l. rw (a.mappings.component x l) (c.lent x l);
-        record_room = c.record-room;
+        record_room = c.record_room;
         most = omega (arith, c.most);
         sample-room = omega (arith, c.sample-room);
       }

@@ -98,7 +98,7 @@ module _ (h : Handed) (m : Jp2) where
   unfolding fitted colour_checks
   checked_coloured c =
       sym (row 4 _ (none-lowest _ _ c.named, (none-lowest _ _ c.defined, (none-lowest _ _ c.mapping, (none-lowest _ _ c.lent, tt))))
-      (row 2 _ (c.record-room, ((c.most, c.sample-room), tt)) refl))
+      (row 2 _ (c.record_room, ((c.most, c.sample-room), tt)) refl))
 
 module _ (h : Handed) (m : Jp2) where
   abbrev k : Jp2

@@ -97,7 +97,7 @@ module _ (h : Handed) (m : Jp2) where
         defined = λ x l. passes-first h.file m.lists.cdef x (c.defined x l);
         mapping = c.mapping;
         lent = c.lent;
-        record_room = c.record-room;
+        record_room = c.record_room;
         most = c.most;
         sample-room = c.sample-room;
       }

@@ -72,7 +72,7 @@ module _ (h : Handed) (m : Jp2) where
         defined = λ c l. defined-says c (p.defined c l);
         mapping = λ c l. mapped-says c (p.mapped c l);
         lent = p.lent;
-        record_room = p.record-room;
+        record_room = p.record_room;
         most = p.few-samples;
         sample-room = p.sample-room;
       }
@@ -84,7 +84,7 @@ module _ (h : Handed) (m : Jp2) where
         defined = λ c l. says-defined c (k.defined c l);
         mapped = λ c l. says-mapped c (k.mapping c l);
         lent = k.lent;
-        record_room = k.record-room;
+        record_room = k.record_room;
         few-samples = k.most;
         sample-room = k.sample-room;
       }
@@ -189,9 +189,9 @@ finished-exactly =
 pub refused-exactly : RefusedExactly
 refused-exactly =
     record {
-      index_25 = λ h m j e. (tells h m 25 j e).by-25 refl;
-      index_26 = λ h m c e. (tells h m 26 c e).by-26 refl;
-      index_27 = λ h m c e. (tells h m 27 c e).by-27 refl;
-      index_28 = λ h m c e. (tells h m 28 c e).by-28 refl;
-      length_30 = λ h m length e. (tells h m 30 length e).by-30 refl;
+      index_25 = λ h m j e. (tells h m 25 j e).by_25 refl;
+      index_26 = λ h m c e. (tells h m 26 c e).by_26 refl;
+      index_27 = λ h m c e. (tells h m 27 c e).by_27 refl;
+      index_28 = λ h m c e. (tells h m 28 c e).by_28 refl;
+      length_30 = λ h m length e. (tells h m 30 length e).by_30 refl;
     }

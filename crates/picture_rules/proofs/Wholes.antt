@@ -2,10 +2,8 @@
 -- Assumes nothing.
 use Prim.Native.Nat.{ℕ}
 use native.Mathlib.Omega.{arith}
-use types.Run.{OneOf, miss}
-use denote.Enum.Declared.{tag_of}
 use mathlib.Core.Path.{◌≡◌, refl, sym, ap, subst, ◌∙◌}
-use mathlib.Core.List.{List, [], ◌∷◌, ◌++◌}
+use mathlib.Core.List.{List, [], ◌++◌}
 use lib.IntN.{ℤ}
 use lib.ListN.{length, drop}
 use Rattle.read_record.specs.declared.Jp2.{Jp2}
@@ -14,7 +12,6 @@ use Rattle.read_record.specs.Answer.{accepted, refused}
 use Rattle.read_rules.specs.declared.FileAnswer.TheVariants as answers
 use Rattle.read_rules.specs.declared.Reading.{Reading}
 use Rattle.read_rules.specs.File.{Walked, codestream, ended, file_refused, read, reading}
-use Rattle.read_rules.specs.contracts.FileAnswer.{the_type}
 use Rattle.read_rules.specs.Alike.{given}
 use Rattle.picture_rules.specs.Image.{Image, image}
 use Rattle.picture_rules.specs.Finish.{Finishing, finished, declined, counted, finish}
@@ -38,10 +35,6 @@ pub declined-done : (x : Finishing) {number place : ℕ} (records : List ℕ) (p
 unfolding answered records_after samples_after
 declined-done x records planes e = record { answer = rw e refl; numbers = rw e refl; samples = rw e refl }
 
--- the cases of an answer that refuse nothing: codestream and ended
-abbrev pub reads : List ℕ
-reads = 0 ∷ 1 ∷ []
-
 -- an answer of reading tells what the file is read to
 told-refused : (w : Walked) {r : Reading} {number place : ℕ} → r ≡ reading blank w → r.answer ≡ answers.Refused number place → given w ≡ refused number place
 unfolding reading
@@ -49,11 +42,11 @@ told-refused (codestream offset m) e d = let z : ◌≡◌ {A = ℕ} 0 1 = cc in
 told-refused (ended m) e d = let z : ◌≡◌ {A = ℕ} 0 1 = cc in absurd (omega arith)
 told-refused (file_refused number place) e d = cc
 
-told-read : (w : Walked) {r : Reading} → r ≡ reading blank w → OneOf reads (tag_of the_type r.answer) → given w ≡ accepted r.jp2
+told-read : (w : Walked) {r : Reading} → r ≡ reading blank w → ((number place : ℕ) → r.answer ≡ answers.Refused number place → ⊥) → given w ≡ accepted r.jp2
 unfolding reading
 told-read (codestream offset m) e d = cc
 told-read (ended m) e d = cc
-told-read (file_refused number place) e d = absurd (miss reads 2 tt (rw e at d))
+told-read (file_refused number place) e d = absurd (d number place (ap (λ (x : Reading). x.answer) e))
 
 -- planes that are answered are those of a finished picture
 planes_of_lem : (x : Finishing) (n : ℕ) → answered x ≡ Planes n → (p : Image) × (x ≡ finished p) × (p.count ≡ n)
@@ -82,7 +75,7 @@ module _ (h : Handed) where
   unfolding pictured
   reading-refused e d = rw (told-refused (read h.file) e d)
 
-  pub reading-on : {r : Reading} → r ≡ reading blank (read h.file) → OneOf reads (tag_of the_type r.answer) → pictured h ≡ finish h r.jp2
+  pub reading-on : {r : Reading} → r ≡ reading blank (read h.file) → ((number place : ℕ) → r.answer ≡ answers.Refused number place → ⊥) → pictured h ≡ finish h r.jp2
   unfolding pictured
   reading-on e d = rw (told-read (read h.file) e d)
 

@@ -1,5 +1,7 @@
 // The component mapping box (I.5.3.5) and the channel definition box (I.5.3.6): which channels a picture has, and what they are.
 // Every reader of a box has this signature: the box's content, the place where the box starts, where its content starts, and the record before it.
+#![tactic(auto)]
+
 ghost use Rattle.std.specs.Prelude.{◌≡◌};
 ghost use Rattle.box_number.specs.Table.{holds};
 ghost use Rattle.read_record.specs.Answer.{answer};

@@ -1,5 +1,5 @@
 -- Colour boxes and the whole answer to each, computed. The box starts at 62 of its file, its content at 70.
-use Rattle.std.specs.Prelude.{ℕ, ◌≡◌, refl, List, [], ◌∷◌, ◌++◌, replicate}
+use Rattle.std.specs.Prelude.{ℕ, ◌≡◌, refl, List, [], ◌∷◌, replicate}
 use Rattle.box_number.specs.Number.{number}
 use Rattle.box_number.specs.Table.{table}
 use Rattle.read_record.specs.declared.Lab.{Lab}

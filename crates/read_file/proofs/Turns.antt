@@ -3,11 +3,8 @@
 use Prim.Native.Nat.{ℕ, ◌+◌, ◌≤◌, ◌<◌}
 use native.Mathlib.Omega.{arith}
 use mathlib.Core.Path.{◌≡◌, refl, sym, ap, subst, ◌∙◌}
-use mathlib.Core.Bool.{true, false, not}
-use mathlib.Core.List.{List, [], ◌∷◌}
-use borrow.Author.Tests.{not-false}
-use types.Run.{OneOf}
-use denote.Enum.Declared.{tag_of}
+use mathlib.Core.Bool.{true, false}
+use mathlib.Core.List.{List}
 use lib.ListN.{length, drop}
 use Rattle.box_number.specs.Number.{part}
 use Rattle.box_number.specs.Table.{◌or◌, holds}
@@ -16,9 +13,8 @@ use Rattle.box_kind.specs.Kind.{kind_of, tag, ◌is◌, is_image_header}
 use Rattle.box_header.specs.declared.Jp2BoxHeader.{Jp2BoxHeader}
 use Rattle.box_header.specs.Box.{largest, length_of_header, box_length, header_of}
 use Rattle.box_kind.specs.declared.Jp2BoxType.{Jp2BoxType}
-use Rattle.box_kind.specs.contracts.Jp2BoxType.{the_type}
 use Rattle.box_kind.specs.declared.Jp2BoxType.TheVariants.{None, JPIP, JP, FTYP, JP2H, IHDR, COLR, JP2C, URL, PCLR, CMAP, CDEF, DTBL, BPCC, JP2, RES, JP2I, XML, UUID, UINF, Unknown}
-use Rattle.box_kind.proofs.KindNumbers.{by-tag, not_named}
+use mathlib.Core.Logic.{◌⊎◌, ⊎_elim}
 use Rattle.read_record.specs.declared.Jp2.{Jp2}
 use Rattle.read_record.specs.declared.Outcome.{Outcome}
 use Rattle.read_record.specs.Answer.{Result, accepted, refused, answer}
@@ -49,27 +45,73 @@ freed k x y e f = free y (e ∙ ap (answer k) f)
     free (accepted m) e = e
     free (refused n p) e = e ∙ ap (λ (j : Jp2). answer j (refused n p)) (sym (ap (λ (o : Outcome). o.jp2) e))
 
--- the tags of the kinds other than jp2c
-abbrev pub not_streams : List ℕ
-not_streams = 0 ∷ 1 ∷ 2 ∷ 3 ∷ 4 ∷ 5 ∷ 6 ∷ 8 ∷ 9 ∷ 10 ∷ 11 ∷ 12 ∷ 13 ∷ 14 ∷ 15 ∷ 16 ∷ 17 ∷ 18 ∷ 19 ∷ 20 ∷ []
+stream_no : (k : Jp2BoxType) → (k ≡ JP2C → ⊥) → false ≡ holds (k is JP2C)
+stream_no None h = refl
+stream_no JPIP h = refl
+stream_no JP h = refl
+stream_no FTYP h = refl
+stream_no JP2H h = refl
+stream_no IHDR h = refl
+stream_no COLR h = refl
+stream_no JP2C h = absurd (h refl)
+stream_no URL h = refl
+stream_no PCLR h = refl
+stream_no CMAP h = refl
+stream_no CDEF h = refl
+stream_no DTBL h = refl
+stream_no BPCC h = refl
+stream_no JP2 h = refl
+stream_no RES h = refl
+stream_no JP2I h = refl
+stream_no XML h = refl
+stream_no UUID h = refl
+stream_no UINF h = refl
+stream_no (Unknown n) h = refl
 
-pub not_stream : {k : Jp2BoxType} (n : ℕ) → k ≡ kind_of n → OneOf not_streams (tag_of the_type k) → tag (kind_of n) ≡ tag JP2C → ⊥
-not_stream {k} n e h t = not_named not_streams k JP2C tt h (ap tag e ∙ t)
+pub not_stream : {k : Jp2BoxType} (n : ℕ) → k ≡ kind_of n → (k ≡ JP2C → ⊥) → tag (kind_of n) ≡ tag JP2C → ⊥
+not_stream {k} n e h = subst (λ (x : Jp2BoxType). tag x ≡ tag JP2C → ⊥) e (said false (k is JP2C) (sym (stream_no k h)))
 
--- the tags of jp2h and of the kinds inside it
-abbrev pub headers : List ℕ
-headers = 4 ∷ 5 ∷ 13 ∷ 6 ∷ 9 ∷ 10 ∷ 11 ∷ []
+-- a kind is jp2h or one inside it
+abbrev pub InHeader : Jp2BoxType → Type 0
+InHeader k = (k ≡ JP2H) ⊎ ((k ≡ IHDR) ⊎ ((k ≡ BPCC) ⊎ ((k ≡ COLR) ⊎ ((k ≡ PCLR) ⊎ ((k ≡ CMAP) ⊎ (k ≡ CDEF))))))
+
+-- what holds of these seven holds of such a kind
+in_header : (P : Jp2BoxType → Type 0) → P JP2H → P IHDR → P BPCC → P COLR → P PCLR → P CMAP → P CDEF → (k : Jp2BoxType) → InHeader k → P k
+in_header P a b c d e f g k h = ⊎_elim (λ x. subst P (sym x) a) (⊎_elim (λ x. subst P (sym x) b) (⊎_elim (λ x. subst P (sym x) c) (⊎_elim (λ x. subst P (sym x) d) (⊎_elim (λ x. subst P (sym x) e) (⊎_elim (λ x. subst P (sym x) f) (λ x. subst P (sym x) g)))))) h
 
 -- a kind of these is jp2h or one inside it
-pub of_header : (k : Jp2BoxType) → OneOf headers (tag_of the_type k) → Says true (k is JP2H or is_image_header k)
-of_header k h = said true (k is JP2H or is_image_header k) (not-false _ (sym (by-tag headers (λ l. not (holds (l is JP2H or is_image_header l))) k (elim k [ None ↦ tt | JPIP ↦ tt | JP ↦ tt | FTYP ↦ tt | JP2H ↦ tt | IHDR ↦ tt | COLR ↦ tt | JP2C ↦ tt | URL ↦ tt | PCLR ↦ tt | CMAP ↦ tt | CDEF ↦ tt | DTBL ↦ tt | BPCC ↦ tt | JP2 ↦ tt | RES ↦ tt | JP2I ↦ tt | XML ↦ tt | UUID ↦ tt | UINF ↦ tt | Unknown n ↦ tt ]) h)))
+pub of_header : (k : Jp2BoxType) → InHeader k → Says true (k is JP2H or is_image_header k)
+of_header k h = said true (k is JP2H or is_image_header k) (in_header (λ (l : Jp2BoxType). holds (l is JP2H or is_image_header l) ≡ true) refl refl refl refl refl refl refl k h)
 
--- the tags of the kinds that are not read
-abbrev pub others : List ℕ
-others = 0 ∷ 1 ∷ 7 ∷ 8 ∷ 12 ∷ 14 ∷ 15 ∷ 16 ∷ 17 ∷ 18 ∷ 19 ∷ 20 ∷ []
+-- a kind that is not read
+abbrev pub Unread : Jp2BoxType → Type 0
+Unread k = (k ≡ JP → ⊥) × (k ≡ FTYP → ⊥) × (k ≡ JP2H → ⊥) × (k ≡ IHDR → ⊥) × (k ≡ COLR → ⊥) × (k ≡ PCLR → ⊥) × (k ≡ CMAP → ⊥) × (k ≡ CDEF → ⊥) × (k ≡ BPCC → ⊥)
 
-pub not_read : (k : Jp2BoxType) → OneOf others (tag_of the_type k) → Says false (is_read k)
-not_read k h = said false (is_read k) (sym (by-tag others (λ l. holds (is_read l)) k (elim k [ None ↦ tt | JPIP ↦ tt | JP ↦ tt | FTYP ↦ tt | JP2H ↦ tt | IHDR ↦ tt | COLR ↦ tt | JP2C ↦ tt | URL ↦ tt | PCLR ↦ tt | CMAP ↦ tt | CDEF ↦ tt | DTBL ↦ tt | BPCC ↦ tt | JP2 ↦ tt | RES ↦ tt | JP2I ↦ tt | XML ↦ tt | UUID ↦ tt | UINF ↦ tt | Unknown n ↦ tt ]) h))
+read_no : (k : Jp2BoxType) → Unread k → holds (is_read k) ≡ false
+read_no None h = refl
+read_no JPIP h = refl
+read_no JP h = absurd (h.0 refl)
+read_no FTYP h = absurd (h.1 refl)
+read_no JP2H h = absurd (h.2 refl)
+read_no IHDR h = absurd (h.3 refl)
+read_no COLR h = absurd (h.4 refl)
+read_no JP2C h = refl
+read_no URL h = refl
+read_no PCLR h = absurd (h.5 refl)
+read_no CMAP h = absurd (h.6 refl)
+read_no CDEF h = absurd (h.7 refl)
+read_no DTBL h = refl
+read_no BPCC h = absurd (h.8 refl)
+read_no JP2 h = refl
+read_no RES h = refl
+read_no JP2I h = refl
+read_no XML h = refl
+read_no UUID h = refl
+read_no UINF h = refl
+read_no (Unknown n) h = refl
+
+pub not_read : (k : Jp2BoxType) → Unread k → Says false (is_read k)
+not_read k h = said false (is_read k) (read_no k h)
 
 -- the two lengths of a header that was read from c
 pub heads_long : {at : ℕ} {c : List ℕ} {h : Jp2BoxHeader} → Heads at c h → h.length ≡ box_length c
@@ -83,12 +125,12 @@ pub whole-box : {at : ℕ} {c : List ℕ} {h : Jp2BoxHeader} {content : List ℕ
 whole-box p e = let q = p.same in cc
 
 -- a box of the file that is jp2h or belongs into it
-module _ (kind : Jp2BoxType) (place start : ℕ) (c : List ℕ) (k : Jp2) (of : OneOf headers (tag_of the_type kind)) (room : start + length c ≤ largest) where
+module _ (kind : Jp2BoxType) (place start : ℕ) (c : List ℕ) (k : Jp2) (of : InHeader kind) (room : start + length c ≤ largest) where
   p : tag kind ≡ tag JP → ⊥
-  p = not_named headers kind JP tt of
+  p = said false (kind is JP) (in_header (λ (l : Jp2BoxType). holds (l is JP) ≡ false) refl refl refl refl refl refl refl kind of)
 
   q : tag kind ≡ tag FTYP → ⊥
-  q = not_named headers kind FTYP tt of
+  q = said false (kind is FTYP) (in_header (λ (l : Jp2BoxType). holds (l is FTYP) ≡ false) refl refl refl refl refl refl refl kind of)
 
   outer-read : Says false (is_early kind k.status.state) → header_box kind place start c k ≡ outer (box_with kind place start c) k
   unfolding outer
@@ -105,7 +147,7 @@ module _ (kind : Jp2BoxType) (place start : ℕ) (c : List ℕ) (k : Jp2) (of : 
   outer-header = each (λ (x : Result). x ≡ outer (box_with kind place start c) k) _ ((λ h. row 3 _ (p, (q, (h.0, (of_header kind of h.0, h.1)))) refl), outer-read)
 
 -- a box of the file that is not read
-pub outer-other : (kind : Jp2BoxType) (place start : ℕ) (c : List ℕ) (k : Jp2) → OneOf others (tag_of the_type kind) → other (box_at kind place start) k ≡ outer (box_with kind place start c) k
+pub outer-other : (kind : Jp2BoxType) (place start : ℕ) (c : List ℕ) (k : Jp2) → Unread kind → other (box_at kind place start) k ≡ outer (box_with kind place start c) k
 unfolding outer
 outer-other kind place start c k h =
     let n = not_read kind h in

@@ -1,4 +1,6 @@
 // The walk through a file (I.2.2): its boxes, one after the other, up to the codestream.
+#![tactic(auto)]
+
 ghost use Rattle.std.specs.Prelude.{◌+◌, ◌≤◌, ◌≡◌, length};
 ghost use Rattle.box_number.specs.Table.{holds};
 ghost use Rattle.box_kind.specs.declared.Jp2BoxType.TheVariants.{JP2C};
@@ -30,7 +32,7 @@ const HIGH: u32 = 2147483648;
 
 // What a place of the file has: no box, the codestream with its header's length, a box that is shorter than its header, one that reaches past the end, or a whole one.
 // The last two have the header as it was read: a kind alone would be put together from its bytes at each box.
-#[derive(Drop)]
+#[derive(Clone, Copy)]
 enum Found {
     Nothing,
     Codestream(u32),

@@ -1,5 +1,7 @@
 // The image header box (I.5.3.1) and the bits per component box (I.5.3.2).
 // Every reader of a box has this signature: the box's content, the place where the box starts, where its content starts, and the record before it.
+#![tactic(auto)]
+
 ghost use Rattle.std.specs.Prelude.{◌≡◌};
 ghost use Rattle.read_record.specs.Answer.{answer};
 ghost use Rattle.read_image.specs.Ihdr.{ihdr};

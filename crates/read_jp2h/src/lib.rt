@@ -1,4 +1,6 @@
 // The JP2 Header box (I.5.3): its boxes, one after the other.
+#![tactic(auto)]
+
 ghost use Rattle.std.specs.Prelude.{◌+◌, ◌≤◌, ◌≡◌, not, ◌&&◌, length};
 ghost use Rattle.box_number.specs.Table.{holds};
 ghost use Rattle.box_kind.specs.Kind.{◌is◌};
@@ -48,14 +50,14 @@ fn read_content(ty: Jp2BoxType, c: &[u8], place: u32, start: u32, j: Jp2) -> Out
 }
 
 // A box to read: its place in the file, and its header. A box outside jp2h is read from its content alone, and has a header of no bytes here.
-#[derive(Drop)]
+#[derive(Clone, Copy)]
 struct Item {
     pub place: u32,
     pub header: Jp2BoxHeader,
 }
 
 // What is read next: nothing where no bytes are left, a box, or the number of a refusal.
-#[derive(Drop)]
+#[derive(Clone, Copy)]
 enum Next {
     Nothing,
     Fault(u32),

@@ -1,3 +1,1 @@
 pub mod Exact
-pub mod Lending
-pub mod LendingFile

@@ -1,5 +1,5 @@
--- A promise `leaves r (now j.exit) ≡ ..` leaves one answer and one record, and so does the promise of a file, `FileRead`.
-use Rattle.core.specs.Prelude.{◌≡◌, ℕ, List}
+-- A promise `leaves result j.new ≡ ..` leaves one answer and one record, and so does the promise of a file, `FileRead`.
+use Rattle.std.specs.Prelude.{◌≡◌, ℕ, List}
 use Rattle.read_record.specs.declared.Jp2.{Jp2}
 use Rattle.read_record.specs.declared.Answer.{Answer}
 use Rattle.read_record.specs.declared.Outcome.{Outcome}

@@ -1,6 +1,8 @@
 // The signature box and the file type box over a header record that is lent: each reader takes the record out, calls the reader by value, stores the record back and answers.
-// `leaves r (now j.exit) ≡ answer ..`: the answer and the record at exit are together what the reader's definition says, so a refusal leaves the record as it was.
-ghost use Rattle.core.specs.Prelude.{◌≡◌};
+// `leaves result j.new ≡ answer ..`: the answer and the record at exit are together what the reader's definition says, so a refusal leaves the record as it was.
+#![tactic(auto)]
+
+ghost use Rattle.std.specs.Prelude.{◌≡◌};
 ghost use Rattle.read_record.specs.Answer.{answer};
 ghost use Rattle.read_signature.specs.Signature.{signature};
 ghost use Rattle.read_signature.specs.FileType.{file_type};

@@ -1,5 +1,7 @@
 // The palette box (I.5.3.4).
 // Every reader of a box has this signature: the box's content, the place where the box starts, where its content starts, and the record before it.
+#![tactic(auto)]
+
 ghost use Rattle.std.specs.Prelude.{◌≡◌};
 ghost use Rattle.read_record.specs.Answer.{answer};
 ghost use Rattle.read_palette.specs.Pclr.{entry_bytes, row_bytes, pclr};

@@ -1,11 +1,13 @@
 // The header record (`opj_jp2` of types.rs and the structs inside it), by value and in parts, and the answer of a reader.
+#![tactic(auto)]
+
 ghost use Rattle.std.specs.Prelude.{◌≡◌, ◌+◌, ◌*◌, get_or};
 ghost use Rattle.read_record.specs.Component.{numbers_each};
 ghost use Rattle.read_record.specs.Record.{blank};
 ghost use Rattle.read_record.specs.Answer.{accepted, refused, answer};
 
 // ihdr. numcomps is the length of the crate's `comps`, and 0 until an ihdr is read.
-#[derive(Drop)]
+#[derive(Clone, Copy)]
 pub struct Image {
     pub h: u32,
     pub w: u32,
@@ -17,14 +19,14 @@ pub struct Image {
 }
 
 // CIELab: the first `count` of the numbers count, 8 or 9; 0 where the colour is another.
-#[derive(Drop)]
+#[derive(Clone, Copy)]
 pub struct Lab {
     pub numbers: [u32; 9],
     pub count: u32,
 }
 
 // colr. held is the crate's `jp2_has_colr`.
-#[derive(Drop)]
+#[derive(Clone, Copy)]
 pub struct Colour {
     pub meth: u32,
     pub precedence: u32,
@@ -35,21 +37,21 @@ pub struct Colour {
 }
 
 // ftyp, without its list.
-#[derive(Drop)]
+#[derive(Clone, Copy)]
 pub struct FileType {
     pub brand: u32,
     pub minversion: u32,
 }
 
 // A list that stays in the file: where it starts, and how many it has.
-#[derive(Drop)]
+#[derive(Clone, Copy)]
 pub struct Span {
     pub place: usize,
     pub count: usize,
 }
 
 // A palette that stays in the file: where its columns' widths start, and how many entries and columns it has. No columns: no palette.
-#[derive(Drop)]
+#[derive(Clone, Copy)]
 pub struct Palette {
     pub place: usize,
     pub entries: u32,
@@ -57,7 +59,7 @@ pub struct Palette {
 }
 
 // The lists of the record; a count of 0 where there is none.
-#[derive(Drop)]
+#[derive(Clone, Copy)]
 pub struct Lists {
     pub cl: Span,
     pub bpcc: Span,
@@ -68,7 +70,7 @@ pub struct Lists {
 }
 
 // jp2_state, jp2_img_state, has_jp2h and has_ihdr.
-#[derive(Drop)]
+#[derive(Clone, Copy)]
 pub struct Status {
     pub state: u32,
     pub imgstate: u32,
@@ -76,7 +78,7 @@ pub struct Status {
     pub hasihdr: u32,
 }
 
-#[derive(Drop)]
+#[derive(Clone, Copy)]
 pub struct Jp2 {
     pub image: Image,
     pub colour: Colour,
@@ -86,14 +88,14 @@ pub struct Jp2 {
 }
 
 // What a reader answers; a refusal gives document 01's number and the place.
-#[derive(Drop)]
+#[derive(Clone, Copy)]
 pub enum Answer {
     Done,
     Refused(u32, u32),
 }
 
 // An answer and the record after it.
-#[derive(Drop)]
+#[derive(Clone, Copy)]
 pub struct Outcome {
     pub answer: Answer,
     pub jp2: Jp2,

@@ -6,7 +6,7 @@ use mathlib.Core.Bool.{true, false}
 use mathlib.Core.List.{List}
 use native.Mathlib.Nat.{zero-add}
 use native.Mathlib.Omega.{arith}
-use lib.ListN.{length, get_or, take, drop, length-take, length-drop}
+use lib.ListN.{length, take, drop, length-take, length-drop}
 use lib.Seq.{get_or-take, get_or-drop, ext_get_or, length-take-le, take_all}
 use Rattle.box_number.specs.Number.{part}
 use Rattle.box_number.specs.Table.{◌=?◌, ◌<?◌}
@@ -18,9 +18,9 @@ use Rattle.box_header.proofs.Headers.{header-least, header_16, box-all}
 use Rattle.read_record.specs.declared.Jp2.{Jp2}
 use Rattle.read_record.specs.Answer.{Result, accepted, refused}
 use Rattle.read_jp2h.specs.Split.{Box, Boxes, to_end, first_box, split, boxes}
-use Rattle.read_rules.specs.File.{Walked, ended, file_refused, then_walk, is_stream, stream, past_end, outer, whole, run, walk}
+use Rattle.read_rules.specs.File.{Walked, ended, file_refused, then_walk, is_stream, stream, past_end, outer, whole, run}
 use Rattle.read_rules.specs.BoxByBox.{box_from}
-use Rattle.read_rules.specs.Beginnings.{end_of, shortened, run_to, Beginnings}
+use Rattle.read_rules.specs.Beginnings.{shortened, run_to, Beginnings}
 use Rattle.read_rules.proofs.Sames.{Same, within, number_same}
 use Rattle.read_rules.proofs.Headers.{split-enough, rest-less, box_by_box, run_none, run-missing, run-there}
 

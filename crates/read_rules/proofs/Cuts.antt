@@ -6,21 +6,20 @@ use mathlib.Core.Bool.{true, false}
 use mathlib.Core.List.{List, [], ◌∷◌, ◌++◌}
 use native.Mathlib.Nat.{zero-add}
 use native.Mathlib.Omega.{arith}
-use lib.ListN.{length, take, drop, length-append, length-drop}
+use lib.ListN.{length, drop, length-append, length-drop}
 use lib.Seq.{take-append_seam}
-use Rattle.box_number.specs.Number.{part}
-use Rattle.box_number.specs.Table.{◌<?◌, otherwise, ◌⇒◌∣◌, table}
+use Rattle.box_number.specs.Table.{otherwise, ◌⇒◌∣◌, table}
 use Rattle.box_number.proofs.Rows.{Says, row, each, not_both}
 use Rattle.box_kind.specs.Kind.{is_image_header}
-use Rattle.box_header.specs.Box.{largest, length_of_header, box_length}
+use Rattle.box_header.specs.Box.{largest, box_length}
 use Rattle.box_header.proofs.Headers.{box-all}
 use Rattle.read_record.specs.declared.Jp2.{Jp2}
 use Rattle.read_record.specs.State.{with_unknown}
 use Rattle.read_record.specs.Answer.{Result, accepted, refused}
-use Rattle.read_jp2h.specs.Split.{Box, Boxes, no_bytes, cut, high_word, to_end, short, past, ◌▸◌, first_box, split, boxes}
+use Rattle.read_jp2h.specs.Split.{Box, Boxes, no_bytes, cut, high_word, to_end, short, past, ◌▸◌, split, boxes}
 use Rattle.read_rules.specs.declared.Reading.{Reading}
 use Rattle.read_rules.specs.File.{Walked, codestream, ended, file_refused, then_walk, is_stream, stream, other, is_read, past_end, outer, whole, run, walk, reading}
-use Rattle.read_rules.specs.Beginnings.{end_of, shortened, run_to}
+use Rattle.read_rules.specs.Beginnings.{end_of, run_to}
 use Rattle.read_rules.specs.CutTransfers.{before, first_cut, ButState, FieldByField, CutShort, as_whole, ended_with, four_at, NothingElse, CutTransfers, WhateverWasLost, FileRead, length_zero, NoLengthZeroBefore}
 use Rattle.read_rules.proofs.Headers.{box_by_box}
 use Rattle.read_rules.proofs.Beginnings.{content-long, beginnings}

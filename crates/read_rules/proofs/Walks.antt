@@ -14,7 +14,7 @@ use Rattle.read_record.specs.declared.Jp2.{Jp2}
 use Rattle.read_record.specs.State.{with_unknown}
 use Rattle.read_record.specs.Answer.{Result, accepted}
 use Rattle.read_jp2h.specs.Split.{Box, first_box, split}
-use Rattle.read_rules.specs.File.{Walked, ended, then_walk, is_stream, stream, other, outer, past_end, whole, run}
+use Rattle.read_rules.specs.File.{Walked, ended, then_walk, is_stream, stream, outer, past_end, whole, run}
 use Rattle.read_rules.proofs.Sames.{headed_self}
 use Rattle.read_rules.proofs.Parts.{Whole, content, rest, Lies, lies_part, lies_drop}
 use Rattle.read_rules.proofs.Splits.{box_of, Found, split-next, split-last}

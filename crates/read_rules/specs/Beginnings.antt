@@ -4,7 +4,7 @@ use Rattle.box_number.specs.Table.{◌<?◌, otherwise, ◌⇒◌∣◌, table}
 use Rattle.box_header.specs.Box.{largest}
 use Rattle.read_record.specs.declared.Jp2.{Jp2}
 use Rattle.read_jp2h.specs.Split.{Box, Boxes, no_bytes, cut, high_word, to_end, short, past, ◌▸◌, boxes}
-use Rattle.read_rules.specs.File.{Walked, ended, file_refused, then_walk, is_stream, stream, past_end, outer, whole, run, walk}
+use Rattle.read_rules.specs.File.{Walked, ended, then_walk, is_stream, stream, past_end, outer, whole, run, walk}
 
 -- the place behind a box's last byte
 abbrev pub end_of : Box → ℕ

@@ -291,7 +291,7 @@ refused_files =
     free_box from full_with (status 2147483646 5 6 7) gives Refused 5 0 with full_with (status 2147483646 5 6 7) ∣
     signed ++ free_box from no_record gives Refused 6 12 with no_record ∣
     free_box from full_with (status 2147483645 5 6 7) gives Refused 6 0 with full_with (status 2147483645 5 6 7) ∣
-    -- 7: j_p where the state is not 0, not of 4 bytes, or of other bytes
+    -- 7: jP where the state is not 0, not of 4 bytes, or of other bytes
     signed ++ signed from no_record gives Refused 7 12 with no_record ∣
     jp_box (0x0d ∷ 0x0a ∷ 0x87 ∷ []) from no_record gives Refused 7 0 with no_record ∣
     jp_box (0x0d ∷ 0x0a ∷ 0x87 ∷ 0x0a ∷ 0 ∷ []) from no_record gives Refused 7 0 with no_record ∣

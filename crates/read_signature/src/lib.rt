@@ -1,5 +1,7 @@
 // The boxes that begin a file: signature (I.5.1) and file type (I.5.2).
 // Every reader of a box has this signature: the box's content, the place where the box starts, where its content starts, and the record before it.
+#![tactic(auto)]
+
 ghost use Rattle.std.specs.Prelude.{◌≡◌};
 ghost use Rattle.read_record.specs.Answer.{answer};
 ghost use Rattle.read_signature.specs.Signature.{signature};

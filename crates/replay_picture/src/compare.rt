@@ -16,6 +16,7 @@ const DIFFERING: usize = 31;
 
 // The count of the tally for picture i: DIFFERING where it differs or the list has ended, else 0 or the number of the refusal.
 pub(crate) fn outcome(
+    rt: &impl Print,
     i: u32,
     picture: &[u8],
     answer: &[u64],
@@ -25,27 +26,27 @@ pub(crate) fn outcome(
     ensures { result ≡ count_of picture.now answer.now records.now planes.now }
 {
     if picture.len() == 0 {
-        return differs(b"case #: the list has ended\n", i, 0);
+        return differs(rt, b"case #: the list has ended\n", i, 0);
     }
     let a = first_number(picture, answer);
     if a < ANSWER_LENGTH {
-        return differs(b"case #: the answer differs at #\n", i, a);
+        return differs(rt, b"case #: the answer differs at #\n", i, a);
     }
     let r = first_record(list::records(picture), records);
     if r < records.len() {
-        return differs(b"case #: the records differ at #\n", i, r);
+        return differs(rt, b"case #: the records differ at #\n", i, r);
     }
     let s = first_sample(list::numbers(list::planes(picture)), planes);
     if s < planes.len() {
-        return differs(b"case #: the samples differ at #\n", i, s);
+        return differs(rt, b"case #: the samples differ at #\n", i, s);
     }
     at(answer, ANSWER_NUMBER) as usize
 }
 
-fn differs(shape: &[u8], i: u32, k: usize) -> usize
+fn differs(rt: &impl Print, shape: &[u8], i: u32, k: usize) -> usize
     ensures { result ≡ differing }
 {
-    say(shape, &[i as usize, k]);
+    say(rt, shape, &[i as usize, k]);
     DIFFERING
 }
 

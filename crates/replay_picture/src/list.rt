@@ -1,6 +1,6 @@
 // The parts of a picture in the list. Each function is given the list from a picture on, and what it gives goes on to the list's end where nothing else is said.
 // A number past the end is 0.
-ghost use Rattle.std.specs.Prelude.{◌≤◌, ◌≡◌};
+ghost use Rattle.std.specs.Prelude.{◌≤◌, ◌≡◌, length};
 ghost use Rattle.std.specs.Int.{w32};
 ghost use Rattle.std.proofs.Common.{to_z};
 ghost use Rattle.replay_picture.specs.Private.Listed.{number_at, numbers_of, behind_numbers, file_of, flag_of, components_of, samples_of, rooms_of, answer_number, records_of, planes_of};
@@ -25,14 +25,14 @@ pub(crate) fn number(s: &[u8], i: usize) -> u32
 }
 
 // The same as the length of a list. One that is longer than most is cut, and that is printed.
-pub fn length(s: &[u8], i: usize, most: usize) -> usize
+pub fn length(rt: &impl Print, s: &[u8], i: usize, most: usize) -> usize
     ensures { result ≤ most }
 {
     let n = number(s, i) as usize;
     if n <= most {
         return n;
     }
-    say(b"no room for a list of #\n", &[n]);
+    say(rt, b"no room for a list of #\n", &[n]);
     most
 }
 
@@ -122,7 +122,7 @@ pub(crate) fn planes(picture: &[u8]) -> &[u8]
 
 // The bytes of the picture.
 pub fn bytes(picture: &[u8]) -> usize
-    ensures* { do ⌜ result ≤ (← (⟦picture.len()⟧).entry) ⌝ }
+    ensures { result ≤ length picture.now }
 {
     let left = behind_numbers(planes(picture)).len();
     if left < picture.len() {

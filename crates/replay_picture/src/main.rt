@@ -1,9 +1,10 @@
 // Finishes each picture of two lists, one behind the other, and compares the answer and every number of both destinations with those in the list. Those of the first list are the crate's answers, those of the second are told for edition 2.
 // The lists are made of the seed 1; oracle/README.md has their form ("The replay list").
+#![tactic(auto)]
+
 ghost use Rattle.std.specs.Prelude.{◌≡◌, length};
 
-use libc::STDIN_FILENO;
-use test_lines::{count, say};
+use test_lines::{count, read_full, say};
 
 mod compare;
 mod list;
@@ -17,23 +18,24 @@ const EDITION_2: u32 = 1;
 // The most elements of a given list, and of a destination for records.
 const MOST: usize = 128;
 
-fn main() {
+fn main(rt: HostRuntime) {
     let mut list = list_room();
-    let n = io::read_full(STDIN_FILENO, &mut list);
+    let n = read_full(&mut rt.stdin(), &mut list);
     let mut room = samples_room();
-    let second = replay(EDITION_1, &list[..n], &mut room);
-    say(b"In edition 2:\n", &[]);
-    let behind = replay(EDITION_2, second, &mut room);
-    say(b"bytes behind the lists: #\n", &[behind.len()]);
+    let second = replay(&rt, EDITION_1, &list[..n], &mut room);
+    say(&rt, b"In edition 2:\n", &[]);
+    let behind = replay(&rt, EDITION_2, second, &mut room);
+    say(&rt, b"bytes behind the lists: #\n", &[behind.len()]);
 }
 
 // Replays the list in front in an edition, prints how its pictures came out, and gives what is behind it.
 // The tally counts finished pictures at 0, the refusal n at n, and pictures that differ from the list at DIFFERING of compare.
-fn replay<'a>(edition2: u32, list: &'a [u8], room: &mut [i32]) -> &'a [u8] {
+fn replay<'a>(rt: &impl Print, edition2: u32, list: &'a [u8], room: &mut [i32]) -> &'a [u8] {
     let mut tally = [0usize; 32];
-    let behind = each_case(edition2, list, room, &mut tally);
-    say(b"cases: #\n", &[list::number(list, 0) as usize]);
+    let behind = each_case(rt, edition2, list, room, &mut tally);
+    say(rt, b"cases: #\n", &[list::number(list, 0) as usize]);
     say(
+        rt,
         b"finished: #\n\
            refused 1: #\n\
            refused 2: #\n\
@@ -86,13 +88,19 @@ fn samples_room() -> [i32; 261120]
 }
 
 // Counts the outcome of each case of a list, and gives what is behind it.
-fn each_case<'a>(edition2: u32, list: &'a [u8], room: &mut [i32], tally: &mut [usize]) -> &'a [u8] {
+fn each_case<'a>(
+    rt: &impl Print,
+    edition2: u32,
+    list: &'a [u8],
+    room: &mut [i32],
+    tally: &mut [usize],
+) -> &'a [u8] {
     let cases = list::number(list, 0);
     let mut rest = box_number::part(list, 4, list.len());
     let mut i: u32 = 0;
     while i < cases {
         let taken = list::bytes(rest);
-        count(tally, case(edition2, i, rest, room));
+        count(tally, case(rt, edition2, i, rest, room));
         rest = &rest[taken..];
         i = i + 1;
     }
@@ -100,20 +108,21 @@ fn each_case<'a>(edition2: u32, list: &'a [u8], room: &mut [i32], tally: &mut [u
 }
 
 // The count of the tally for picture i. Its lists are laid out first.
-fn case(edition2: u32, i: u32, picture: &[u8], room: &mut [i32]) -> usize {
+fn case(rt: &impl Print, edition2: u32, i: u32, picture: &[u8], room: &mut [i32]) -> usize {
     let mut comps = [0u32; MOST];
     let mut samples = [0i32; MOST];
     let mut records = [0u32; MOST];
     let listed_comps = list::components(picture);
-    let comps_length = list::length(listed_comps, 0, MOST);
+    let comps_length = list::length(rt, listed_comps, 0, MOST);
     put::numbers(listed_comps, &mut comps);
     let listed_samples = list::samples(picture);
-    let samples_length = list::length(listed_samples, 0, MOST);
+    let samples_length = list::length(rt, listed_samples, 0, MOST);
     put::samples(listed_samples, &mut samples);
     let rooms = list::rooms(picture);
-    let records_length = list::length(rooms, 0, MOST);
-    let planes_length = list::length(rooms, 1, room.len());
+    let records_length = list::length(rt, rooms, 0, MOST);
+    let planes_length = list::length(rt, rooms, 1, room.len());
     outcome(
+        rt,
         edition2,
         i,
         picture,
@@ -126,6 +135,7 @@ fn case(edition2: u32, i: u32, picture: &[u8], room: &mut [i32]) -> usize {
 
 // The same, with the lists lent. No answer is 9 9 9 9.
 fn outcome(
+    rt: &impl Print,
     edition2: u32,
     i: u32,
     picture: &[u8],
@@ -148,5 +158,5 @@ fn outcome(
         planes,
         &mut answer,
     );
-    compare::outcome(i, picture, &answer, records, planes)
+    compare::outcome(rt, i, picture, &answer, records, planes)
 }

@@ -1,10 +1,11 @@
 // Reads each file of a list and compares all 44 numbers of its reading with those in the list, which are the crate's answers.
 // The list, whose numbers have 4 bytes each: how many cases there are; then for each case the file's length, the file, and the 44 numbers.
 // It is made of three pictures and the seed 1 (oracle/README.md, "The replay list").
+#![tactic(auto)]
+
 ghost use Rattle.std.specs.Prelude.{◌≤◌, ◌≡◌, length};
 
-use libc::STDIN_FILENO;
-use test_lines::{at, count, say};
+use test_lines::{at, count, read_full, say};
 
 // How many numbers a reading has.
 const READING_LENGTH: usize = 44;
@@ -19,13 +20,14 @@ const ENDED: usize = 25;
 
 const DIFFERING: usize = 26;
 
-fn main() {
+fn main(rt: HostRuntime) {
     let mut list = room();
-    let n = io::read_full(STDIN_FILENO, &mut list);
+    let n = read_full(&mut rt.stdin(), &mut list);
     let mut tally = [0usize; 27];
-    let cases = each_case(&list[..n], &mut tally);
-    say(b"cases: #\n", &[cases as usize]);
+    let cases = each_case(&rt, &list[..n], &mut tally);
+    say(&rt, b"cases: #\n", &[cases as usize]);
     say(
+        &rt,
         b"codestream: #\n\
           refused 1: #\n\
           refused 2: #\n\
@@ -65,13 +67,13 @@ fn room() -> [u8; 1500000]
 }
 
 // How many cases there are.
-fn each_case(list: &[u8], tally: &mut [usize]) -> u32 {
+fn each_case(rt: &impl Print, list: &[u8], tally: &mut [usize]) -> u32 {
     let cases = box_number::read_u32(list, 0);
     let mut rest = box_number::part(list, 4, list.len());
     let mut i: u32 = 0;
     while i < cases {
         let taken = case_length(rest);
-        count(tally, case(i, rest));
+        count(tally, case(rt, i, rest));
         rest = &rest[taken..];
         i = i + 1;
     }
@@ -91,19 +93,20 @@ fn case_length(rest: &[u8]) -> usize
 }
 
 // The count of the tally for file i.
-fn case(i: u32, rest: &[u8]) -> usize {
+fn case(rt: &impl Print, i: u32, rest: &[u8]) -> usize {
     let end = box_number::read_u32(rest, 0) as usize + 4;
     let mut numbers = [0u64; READING_LENGTH];
     cuzhantir::cuzhantir_read(box_number::part(rest, 4, end), &mut numbers);
-    outcome(i, box_number::part(rest, end, rest.len()), &numbers)
+    outcome(rt, i, box_number::part(rest, end, rest.len()), &numbers)
 }
 
 // The same, after reading. Prints the first number that differs.
-fn outcome(i: u32, answer: &[u8], numbers: &[u64]) -> usize {
+fn outcome(rt: &impl Print, i: u32, answer: &[u8], numbers: &[u64]) -> usize {
     let first = first_difference(answer, numbers);
     if first < READING_LENGTH {
         let listed = box_number::read_u32(answer, first * 4);
         say(
+            rt,
             b"case #, number #: #, and not #\n",
             &[
                 i as usize,

@@ -5,10 +5,11 @@
 //   11 to 14  the answer: kind, number, index or needed length, how many bytes were written
 // and after these 15 numbers the list of components, the profile and the written bytes.
 // It is made of the seed 1 (oracle/README.md, "The replay list").
+#![tactic(auto)]
+
 ghost use Rattle.std.specs.Prelude.{◌≤◌, ◌≡◌, length};
 
-use libc::STDIN_FILENO;
-use test_lines::{at, count, say};
+use test_lines::{at, count, read_full, say};
 
 // The numbers of a case: the lengths of the components, the profile, the codestream's high and low word, the destination; then the answer.
 const COMPS: usize = 0;
@@ -39,16 +40,17 @@ const MOST: usize = 4096;
 // The tally counts written requests at 0, the refusal n at n, and those that differ from the list at DIFFERING.
 const DIFFERING: usize = 35;
 
-fn main() {
+fn main(rt: HostRuntime) {
     let mut list = room();
-    let n = io::read_full(STDIN_FILENO, &mut list);
+    let n = read_full(&mut rt.stdin(), &mut list);
     let mut comps = [0u32; MOST];
     let mut d = [0u8; MOST];
     let mut tally = [0usize; 36];
-    let cases = each_case(&list[..n], &mut comps, &mut d, &mut tally);
-    say(b"cases: #\n", &[cases as usize]);
-    say(b"written: #\n", &tally);
+    let cases = each_case(&rt, &list[..n], &mut comps, &mut d, &mut tally);
+    say(&rt, b"cases: #\n", &[cases as usize]);
+    say(&rt, b"written: #\n", &tally);
     say(
+        &rt,
         b"refused 29: #\n\
           refused 30: #\n\
           refused 31: #\n\
@@ -68,13 +70,19 @@ fn room() -> [u8; 1000000]
 }
 
 // How many cases there are.
-fn each_case(list: &[u8], comps: &mut [u32], d: &mut [u8], tally: &mut [usize]) -> u32 {
+fn each_case(
+    rt: &impl Print,
+    list: &[u8],
+    comps: &mut [u32],
+    d: &mut [u8],
+    tally: &mut [usize],
+) -> u32 {
     let cases = box_number::read_u32(list, 0);
     let mut rest = box_number::part(list, 4, list.len());
     let mut i: u32 = 0;
     while i < cases {
         let taken = case_length(rest);
-        count(tally, case(i, rest, comps, d));
+        count(tally, case(rt, i, rest, comps, d));
         rest = &rest[taken..];
         i = i + 1;
     }
@@ -119,12 +127,12 @@ fn bytes_end(rest: &[u8]) -> usize {
 }
 
 // The count of the tally for request i.
-fn case(i: u32, rest: &[u8], comps: &mut [u32], d: &mut [u8]) -> usize {
+fn case(rt: &impl Print, i: u32, rest: &[u8], comps: &mut [u32], d: &mut [u8]) -> usize {
     let mut answer = [0u64; 4];
     take_numbers(box_number::part(rest, NUMBERS_BYTES, rest.len()), comps);
     fill(d);
     write_in_first(rest, comps, d, &mut answer);
-    outcome(i, rest, d, &answer)
+    outcome(rt, i, rest, d, &answer)
 }
 
 fn take_numbers(list: &[u8], comps: &mut [u32]) {
@@ -185,11 +193,12 @@ fn write(rest: &[u8], comps: &[u32], d: &mut [u8], answer: &mut [u64]) {
 }
 
 // The same, after writing: DIFFERING where the answer or the destination is not that of the list. Prints the first difference.
-fn outcome(i: u32, rest: &[u8], d: &[u8], answer: &[u64]) -> usize {
+fn outcome(rt: &impl Print, i: u32, rest: &[u8], d: &[u8], answer: &[u64]) -> usize {
     let first = first_number(rest, answer);
     if first < ANSWER_LENGTH {
         let listed = number(rest, first + ANSWER);
         say(
+            rt,
             b"case #, number #: #, and not #\n",
             &[
                 i as usize,
@@ -204,6 +213,7 @@ fn outcome(i: u32, rest: &[u8], d: &[u8], answer: &[u64]) -> usize {
     let place = first_byte(bytes, d);
     if place < d.len() {
         say(
+            rt,
             b"case #, byte #: #, and not #\n",
             &[
                 i as usize,

@@ -10,40 +10,41 @@ const MOST: u32 = 0xffffffff;
 // The last place that a usize can name.
 const FAR: usize = 0xffff_ffff_ffff_ffff;
 
-pub(crate) fn all() {
+pub(crate) fn all(rt: &impl Print) {
     // a cut header is answered before a high word, and before a length of 0 inside jp2h
-    each_beginning(b"\x00\x00\x00\x01jp2c\x00\x00\x00\x01\x00\x00\x00\x10");
-    each_beginning(b"\x00\x00\x00\x00jp2c");
-    contents();
-    new(Jp2BoxType::JP2H);
-    new(Jp2BoxType::Unknown(0x75756964));
-    new(Jp2BoxType::None);
-    content_lengths();
-    nexts();
-    writes();
+    each_beginning(rt, b"\x00\x00\x00\x01jp2c\x00\x00\x00\x01\x00\x00\x00\x10");
+    each_beginning(rt, b"\x00\x00\x00\x00jp2c");
+    contents(rt);
+    new(rt, Jp2BoxType::JP2H);
+    new(rt, Jp2BoxType::Unknown(0x75756964));
+    new(rt, Jp2BoxType::None);
+    content_lengths(rt);
+    nexts(rt);
+    writes(rt);
 }
 
-fn each_beginning(s: &[u8]) {
+fn each_beginning(rt: &impl Print, s: &[u8]) {
     let mut n = 0;
     while n < s.len() {
-        read(&s[0..n]);
+        read(rt, &s[0..n]);
         n += 1;
     }
-    read(s);
+    read(rt, s);
 }
 
 // Lengths of 4 bytes, then of 8.
-fn contents() {
+fn contents(rt: &impl Print) {
     each_content(
+        rt,
         b"\x00\x00\x00\x00jp2c\xff\x4f\
-          \x00\x00\x00\x02j_p  \
+          \x00\x00\x00\x02jP  \
           \x00\x00\x00\x03ftyp\
           \x00\x00\x00\x04jp2h\
           \x00\x00\x00\x05ihdr\
           \x00\x00\x00\x06colr\
           \x00\x00\x00\x07uuid\
           \x00\x00\x00\x08\x75\x75\x69\x94\
-          \x00\x00\x00\x0cj_p  \x0d\x0a\x87\x0a\
+          \x00\x00\x00\x0cjP  \x0d\x0a\x87\x0a\
           \x00\x00\x00\x10cdef\x00\x00\x00\x01\x00\x00\x00\x10\
           \x01\x00\x00\x00pclr\
           \x80\x00\x00\x00cmap\
@@ -51,6 +52,7 @@ fn contents() {
         &[10, 18, 26, 34, 42, 50, 58, 66, 78, 94, 102, 110, 118],
     );
     each_content(
+        rt,
         b"\x00\x00\x00\x01bpcc\x00\x00\x00\x00\x00\x00\x00\x00\
           \x00\x00\x00\x01bpcc\x00\x00\x00\x00\x00\x00\x00\x01\
           \x00\x00\x00\x01bpcc\x00\x00\x00\x00\x00\x00\x00\x0f\
@@ -65,104 +67,106 @@ fn contents() {
 }
 
 // Contents one after the other, of which each ends where it is said.
-fn each_content(contents: &[u8], ends: &[usize]) {
+fn each_content(rt: &impl Print, contents: &[u8], ends: &[usize]) {
     let mut start = 0;
     let mut i = 0;
     while i < ends.len() {
-        read(box_number::part(contents, start, ends[i]));
+        read(rt, box_number::part(contents, start, ends[i]));
         start = ends[i];
         i += 1;
     }
 }
 
-fn content_lengths() {
-    content_length(0, 8);
-    content_length(7, 8);
-    content_length(8, 8);
-    content_length(9, 8);
-    content_length(15, 16);
-    content_length(16, 16);
-    content_length(17, 16);
-    content_length(MOST, 8);
-    content_length(MOST, 16);
-    content_length(MOST, 0);
-    content_length(0, MOST);
-    content_length(MOST, MOST);
+fn content_lengths(rt: &impl Print) {
+    content_length(rt, 0, 8);
+    content_length(rt, 7, 8);
+    content_length(rt, 8, 8);
+    content_length(rt, 9, 8);
+    content_length(rt, 15, 16);
+    content_length(rt, 16, 16);
+    content_length(rt, 17, 16);
+    content_length(rt, MOST, 8);
+    content_length(rt, MOST, 16);
+    content_length(rt, MOST, 0);
+    content_length(rt, 0, MOST);
+    content_length(rt, MOST, MOST);
 }
 
-fn nexts() {
-    next(0, 0);
-    next(0, 85);
-    next(12, 0);
-    next(45, 32);
-    next(MOST, 0);
-    next(1, MOST);
-    next(MOST, MOST);
+fn nexts(rt: &impl Print) {
+    next(rt, 0, 0);
+    next(rt, 0, 85);
+    next(rt, 12, 0);
+    next(rt, 45, 32);
+    next(rt, MOST, 0);
+    next(rt, 1, MOST);
+    next(rt, MOST, MOST);
 }
 
 // The header of 8 bytes in rooms of 0 to 10 bytes: the last place, one past it, and far away.
-fn writes() {
-    write(12, Jp2BoxType::JP, 0, 0);
-    write(12, Jp2BoxType::JP, 7, 0);
-    write(12, Jp2BoxType::JP, 8, 0);
-    write(12, Jp2BoxType::JP, 8, 1);
-    write(0, Jp2BoxType::JP2C, 10, 0);
-    write(1, Jp2BoxType::UUID, 10, 1);
-    write(MOST, Jp2BoxType::Unknown(0x01020304), 10, 2);
-    write(MOST, Jp2BoxType::Unknown(0x01020304), 10, 3);
-    write(0x01020304, Jp2BoxType::None, 10, 2);
-    write(8, Jp2BoxType::XML, 10, FAR);
+fn writes(rt: &impl Print) {
+    write(rt, 12, Jp2BoxType::JP, 0, 0);
+    write(rt, 12, Jp2BoxType::JP, 7, 0);
+    write(rt, 12, Jp2BoxType::JP, 8, 0);
+    write(rt, 12, Jp2BoxType::JP, 8, 1);
+    write(rt, 0, Jp2BoxType::JP2C, 10, 0);
+    write(rt, 1, Jp2BoxType::UUID, 10, 1);
+    write(rt, MOST, Jp2BoxType::Unknown(0x01020304), 10, 2);
+    write(rt, MOST, Jp2BoxType::Unknown(0x01020304), 10, 3);
+    write(rt, 0x01020304, Jp2BoxType::None, 10, 2);
+    write(rt, 8, Jp2BoxType::XML, 10, FAR);
 }
 
-fn read(c: &[u8]) {
-    text(b"from_stream of ");
-    bytes(c);
-    came(Jp2BoxHeader::from_stream(c));
-    text(b"read of ");
-    bytes(c);
-    came(Jp2BoxHeader::read(c));
+fn read(rt: &impl Print, c: &[u8]) {
+    text(rt, b"from_stream of ");
+    bytes(rt, c);
+    came(rt, Jp2BoxHeader::from_stream(c));
+    text(rt, b"read of ");
+    bytes(rt, c);
+    came(rt, Jp2BoxHeader::read(c));
 }
 
-fn came(r: ReadHeader) {
+fn came(rt: &impl Print, r: ReadHeader) {
     match r {
         ReadHeader::Header(h) => {
-            text(b" = ");
-            header(h);
-            text(b"\n");
+            text(rt, b" = ");
+            header(rt, h);
+            text(rt, b"\n");
         }
-        ReadHeader::NoBytes => text(b" = NoBytes\n"),
-        ReadHeader::Cut => text(b" = Cut\n"),
-        ReadHeader::HighWord => text(b" = HighWord\n"),
-        ReadHeader::LengthZero => text(b" = LengthZero\n"),
+        ReadHeader::NoBytes => text(rt, b" = NoBytes\n"),
+        ReadHeader::Cut => text(rt, b" = Cut\n"),
+        ReadHeader::HighWord => text(rt, b" = HighWord\n"),
+        ReadHeader::LengthZero => text(rt, b" = LengthZero\n"),
     }
 }
 
-fn header(h: Jp2BoxHeader) {
+fn header(rt: &impl Print, h: Jp2BoxHeader) {
     let ty = h.ty;
-    text(b"Header ");
-    kinds::name(ty);
+    text(rt, b"Header ");
+    kinds::name(rt, ty);
     say(
+        rt,
         b", length #, header_length #",
         &[h.length as usize, h.header_length as usize],
     );
 }
 
-fn new(ty: Jp2BoxType) {
+fn new(rt: &impl Print, ty: Jp2BoxType) {
     let h = Jp2BoxHeader::new(ty);
-    text(b"new ");
-    header(h);
-    text(b", ty_u32 ");
-    hex(h.ty_u32());
-    text(b"\n");
+    text(rt, b"new ");
+    header(rt, h);
+    text(rt, b", ty_u32 ");
+    hex(rt, h.ty_u32());
+    text(rt, b"\n");
 }
 
-fn content_length(length: u32, header_length: u32) {
+fn content_length(rt: &impl Print, length: u32, header_length: u32) {
     let h = Jp2BoxHeader {
         length,
         ty: Jp2BoxType::COLR,
         header_length,
     };
     say(
+        rt,
         b"content_length of Header COLR, length #, header_length # = #\n",
         &[
             length as usize,
@@ -172,20 +176,21 @@ fn content_length(length: u32, header_length: u32) {
     );
 }
 
-fn next(length: u32, at: u32) {
+fn next(rt: &impl Print, length: u32, at: u32) {
     let h = Jp2BoxHeader {
         length,
         ty: Jp2BoxType::COLR,
         header_length: 8,
     };
     say(
+        rt,
         b"next at # of Header COLR, length #, header_length 8 = #\n",
         &[at as usize, length as usize, h.next(at) as usize],
     );
 }
 
 // Only the first bytes of d are lent, as many as there is to be room for.
-fn write(length: u32, ty: Jp2BoxType, room: usize, at: usize) {
+fn write(rt: &impl Print, length: u32, ty: Jp2BoxType, room: usize, at: usize) {
     let mut d = [0xaau8; 10];
     let h = Jp2BoxHeader {
         length,
@@ -193,15 +198,19 @@ fn write(length: u32, ty: Jp2BoxType, room: usize, at: usize) {
         header_length: 8,
     };
     if room <= 10 {
-        write_in(h, &mut d[0..room], at);
+        write_in(rt, h, &mut d[0..room], at);
     }
 }
 
-fn write_in(h: Jp2BoxHeader, d: &mut [u8], at: usize) {
-    text(b"write ");
-    header(h);
+fn write_in(rt: &impl Print, h: Jp2BoxHeader, d: &mut [u8], at: usize) {
+    text(rt, b"write ");
+    header(rt, h);
     let fitted = h.write(d, at);
-    say(b" at # of # bytes = #, ", &[at, d.len(), fitted as usize]);
-    bytes(d);
-    text(b"\n");
+    say(
+        rt,
+        b" at # of # bytes = #, ",
+        &[at, d.len(), fitted as usize],
+    );
+    bytes(rt, d);
+    text(rt, b"\n");
 }

@@ -11,48 +11,49 @@ const NUMBERS: [u32; 28] = [
     0x72686469, 0x7fffffff, 0xffffffff,
 ];
 
-pub(crate) fn all() {
+pub(crate) fn all(rt: &impl Print) {
     let numbers = NUMBERS;
-    each_number(&numbers);
-    kind(Jp2BoxType::None);
-    kind(Jp2BoxType::Unknown(0x6a502020));
-    kind(Jp2BoxType::Unknown(0x69686472));
+    each_number(rt, &numbers);
+    kind(rt, Jp2BoxType::None);
+    kind(rt, Jp2BoxType::Unknown(0x6a502020));
+    kind(rt, Jp2BoxType::Unknown(0x69686472));
 }
 
-fn each_number(numbers: &[u32]) {
+fn each_number(rt: &impl Print, numbers: &[u32]) {
     let mut i = 0;
     while i < numbers.len() {
-        number(numbers[i]);
+        number(rt, numbers[i]);
         i += 1;
     }
 }
 
-fn number(value: u32) {
-    text(b"from_u32 ");
-    hex(value);
-    text(b" = ");
-    kind(Jp2BoxType::from_u32(value));
+fn number(rt: &impl Print, value: u32) {
+    text(rt, b"from_u32 ");
+    hex(rt, value);
+    text(rt, b" = ");
+    kind(rt, Jp2BoxType::from_u32(value));
 }
 
-fn kind(ty: Jp2BoxType) {
-    name(ty);
-    text(b", to_u32 ");
-    hex(ty.to_u32());
+fn kind(rt: &impl Print, ty: Jp2BoxType) {
+    name(rt, ty);
+    text(rt, b", to_u32 ");
+    hex(rt, ty.to_u32());
     say(
+        rt,
         b", is_file_header #, is_image_header #\n",
         &[ty.is_file_header() as usize, ty.is_image_header() as usize],
     );
 }
 
-pub(crate) fn name(ty: Jp2BoxType) {
+pub(crate) fn name(rt: &impl Print, ty: Jp2BoxType) {
     if let Jp2BoxType::Unknown(value) = ty {
-        text(b"Unknown ");
-        hex(value);
+        text(rt, b"Unknown ");
+        hex(rt, value);
         return;
     }
     let names =
         b"None\nJPIP\nJP\nFTYP\nJP2H\nIHDR\nCOLR\nJP2C\nURL\nPCLR\nCMAP\nCDEF\nDTBL\nBPCC\nJP2\nRES\nJP2I\nXML\nUUID\nUINF\n";
-    text(text::line(names, b'\n', place(ty)));
+    text(rt, text::line(names, b'\n', place(ty)));
 }
 
 // The position of a kind's name among the names.

@@ -1,9 +1,11 @@
 // Edge cases of box kinds and box headers, a line each: the call = its result.
+#![tactic(auto)]
+
 mod headers;
 mod kinds;
 mod say;
 
-fn main() {
-    kinds::all();
-    headers::all();
+fn main(rt: HostRuntime) {
+    kinds::all(&rt);
+    headers::all(&rt);
 }

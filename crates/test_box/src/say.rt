@@ -1,11 +1,9 @@
 // Texts and numbers of kinds on standard output.
-use libc::STDOUT_FILENO;
-
-pub(crate) fn text(s: &[u8]) {
-    io::write_all(STDOUT_FILENO, s);
+pub(crate) fn text(rt: &impl Print, s: &[u8]) {
+    let _ = rt.write_all(s);
 }
 
 // The number of a kind.
-pub(crate) fn hex(n: u32) {
-    io::print_hex(STDOUT_FILENO, n as u64, 8);
+pub(crate) fn hex(rt: &impl Print, n: u32) {
+    let _ = print!(rt; "{n:08x}");
 }

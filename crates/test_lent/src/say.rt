@@ -1,31 +1,31 @@
 // A case, the answer of a reader, and numbers of the record after it.
 ghost use Rattle.std.specs.Prelude.{◌≡◌};
 
-use libc::STDOUT_FILENO;
 use read_record::{Answer, Jp2, Outcome};
 use test_lines::say;
 
 // Gives the record.
-pub(crate) fn came(case: &[u8], r: Outcome) -> Jp2
+pub(crate) fn came(rt: &impl Print, case: &[u8], r: Outcome) -> Jp2
     ensures { result ≡ r.jp2 }
 {
-    io::write_all(STDOUT_FILENO, case);
+    let _ = rt.write_all(case);
     let a = r.answer;
-    answer(a);
+    answer(rt, a);
     let j = r.jp2;
-    record(j);
+    record(rt, j);
     j
 }
 
-fn answer(a: Answer) {
+fn answer(rt: &impl Print, a: Answer) {
     match a {
-        Answer::Done => say(b" = done", &[]),
-        Answer::Refused(n, place) => say(b" = refused # at #", &[n as usize, place as usize]),
+        Answer::Done => say(rt, b" = done", &[]),
+        Answer::Refused(n, place) => say(rt, b" = refused # at #", &[n as usize, place as usize]),
     };
 }
 
-fn record(j: Jp2) {
+fn record(rt: &impl Print, j: Jp2) {
     say(
+        rt,
         b"; state #, width #, depths #, colour #, columns #, mappings #, definitions #\n",
         &[
             wide(j.status.state),

@@ -1,39 +1,58 @@
 // What the test programs share: lines on standard output, and counts of the results.
-ghost use Rattle.std.specs.Prelude.{◌≡◌, length, slice_index};
+#![tactic(auto)]
+
+ghost use Rattle.std.specs.Prelude.{◌≡◌, ◌≤◌, length, slice_index};
 ghost use Rattle.text.specs.Text.{filled};
 ghost use Rattle.test_lines.specs.Lines.{printed, tallied};
 
-use libc::STDOUT_FILENO;
+use std::io::Read;
 
 // Prints a shape in which each # is replaced by the next of the numbers. Answers how many bytes that is: 4096 at most, the rest is left out.
-pub fn say(shape: &[u8], numbers: &[usize]) -> usize
+pub fn say(rt: &impl Print, shape: &[u8], numbers: &[usize]) -> usize
     ensures { result ≡ printed (filled shape.now numbers.now) }
 {
-    let mut d = io::buffer();
+    let mut d = [0u8; 4096];
     let n = text::fill(&mut d, 0, shape, numbers);
-    io::write_all(STDOUT_FILENO, box_number::part(&d, 0, n));
+    let _ = rt.write_all(box_number::part(&d, 0, n));
     n
 }
 
 // Prints how many bytes s has, and each of them. Answers how many.
-pub fn bytes(s: &[u8]) -> usize
+pub fn bytes(rt: &impl Print, s: &[u8]) -> usize
     ensures { result ≡ length s.now }
 {
     say(
+        rt,
         text::line(b"# bytes\n# byte\n", b'\n', (s.len() == 1) as usize),
         &[s.len()],
     );
     let mut i = 0;
     while i < s.len() {
-        byte(s[i]);
+        byte(rt, s[i]);
         i += 1;
     }
     i
 }
 
-fn byte(b: u8) {
-    io::write_all(STDOUT_FILENO, b" ");
-    io::print_hex(STDOUT_FILENO, b as u64, 2);
+fn byte(rt: &impl Print, b: u8) {
+    let _ = print!(rt; " {b:02x}");
+}
+
+// Reads until d is full, or the input ends or fails. Answers how many bytes that is.
+pub fn read_full(input: &mut impl Read, d: &mut [u8]) -> usize
+    ensures { result ≤ length d.new }
+{
+    let mut n = 0;
+    while n < d.len() {
+        let Ok(got) = input.read(&mut d[n..]) else {
+            break;
+        };
+        if got == 0 {
+            break;
+        }
+        n += got;
+    }
+    n
 }
 
 // Adds 1 to count k of a tally; a k past its end changes nothing.

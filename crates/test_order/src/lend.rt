@@ -7,7 +7,7 @@ use picture_order::Definitions;
 use picture_order::lent::Comp;
 use read_record::Answer;
 
-#[derive(Drop)]
+#[derive(Clone, Copy)]
 pub struct Four {
     pub answer: Answer,
     pub comps: [Comp; 4],

@@ -1,5 +1,6 @@
 // Document 01's marked cases on order, definitions that are passed over, a channel defined twice and a case that is refused, each over a lent list of four component records, a line each: first in edition 1, then in edition 2. The records past a case's planes are left.
-use libc::STDOUT_FILENO;
+#![tactic(auto)]
+
 use picture_order::Definitions;
 use picture_order::lent::Comp;
 use read_record::Span;
@@ -12,14 +13,15 @@ const EDITION_1: u32 = 0;
 
 const EDITION_2: u32 = 1;
 
-fn main() {
-    cases(EDITION_1);
-    io::write_all(STDOUT_FILENO, b"In edition 2:\n");
-    cases(EDITION_2);
+fn main(rt: HostRuntime) {
+    cases(&rt, EDITION_1);
+    let _ = rt.write_all(b"In edition 2:\n");
+    cases(&rt, EDITION_2);
 }
 
-fn cases(edition2: u32) {
+fn cases(rt: &impl Print, edition2: u32) {
     run(
+        rt,
         edition2,
         b"A,B,C: (0,0,3),(1,0,2),(2,0,1)",
         b"\0\0\0\0\0\x03\0\x01\0\0\0\x02\0\x02\0\0\0\x01",
@@ -27,6 +29,7 @@ fn cases(edition2: u32) {
         3,
     );
     run(
+        rt,
         edition2,
         b"A,B,C,D: (2,0,1),(0,0,2),(1,1,0),(3,1,0)",
         b"\0\x02\0\0\0\x01\0\0\0\0\0\x02\0\x01\0\x01\0\0\0\x03\0\x01\0\0",
@@ -34,6 +37,7 @@ fn cases(edition2: u32) {
         4,
     );
     run(
+        rt,
         edition2,
         b"A,B: (0,1,0),(1,0,1)",
         b"\0\0\0\x01\0\0\0\x01\0\0\0\x01",
@@ -41,16 +45,18 @@ fn cases(edition2: u32) {
         2,
     );
     run(
+        rt,
         edition2,
         b"A,B: (1,0,1),(0,1,0)",
         b"\0\x01\0\0\0\x01\0\0\0\x01\0\0",
         2,
         2,
     );
-    passed_over(edition2);
-    defined_twice(edition2);
+    passed_over(rt, edition2);
+    defined_twice(rt, edition2);
     // more planes than there are records
     run(
+        rt,
         edition2,
         b"5 planes of 4 records: (0,0,0)",
         b"\0\0\0\0\0\0",
@@ -60,19 +66,21 @@ fn cases(edition2: u32) {
 }
 
 // Definitions whose channel, or whose asoc - 1, has no record, and those just inside.
-fn passed_over(edition2: u32) {
+fn passed_over(rt: &impl Print, edition2: u32) {
     run(
+        rt,
         edition2,
         b"A,B: (2,0,1),(2,1,0)",
         b"\0\x02\0\0\0\x01\0\x02\0\x01\0\0",
         2,
         2,
     );
-    run(edition2, b"A,B: (0,0,3)", b"\0\0\0\0\0\x03", 1, 2);
-    run(edition2, b"A,B: (0,1,3)", b"\0\0\0\x01\0\x03", 1, 2);
-    run(edition2, b"A,B: (0,1,2)", b"\0\0\0\x01\0\x02", 1, 2);
-    run(edition2, b"A,B: (0,0,2)", b"\0\0\0\0\0\x02", 1, 2);
+    run(rt, edition2, b"A,B: (0,0,3)", b"\0\0\0\0\0\x03", 1, 2);
+    run(rt, edition2, b"A,B: (0,1,3)", b"\0\0\0\x01\0\x03", 1, 2);
+    run(rt, edition2, b"A,B: (0,1,2)", b"\0\0\0\x01\0\x02", 1, 2);
+    run(rt, edition2, b"A,B: (0,0,2)", b"\0\0\0\0\0\x02", 1, 2);
     run(
+        rt,
         edition2,
         b"A,B,C: (3,1,0),(0,0,4),(0,0,2),(0,1,4),(0,2,0)",
         b"\0\x03\0\x01\0\0\0\0\0\0\0\x04\0\0\0\0\0\x02\0\0\0\x01\0\x04\0\0\0\x02\0\0",
@@ -82,8 +90,9 @@ fn passed_over(edition2: u32) {
 }
 
 // Channel 0 defined twice: with a move first, with a move last, and a second definition that is passed over.
-fn defined_twice(edition2: u32) {
+fn defined_twice(rt: &impl Print, edition2: u32) {
     run(
+        rt,
         edition2,
         b"A,B: (0,0,2),(0,1,0)",
         b"\0\0\0\0\0\x02\0\0\0\x01\0\0",
@@ -91,6 +100,7 @@ fn defined_twice(edition2: u32) {
         2,
     );
     run(
+        rt,
         edition2,
         b"A,B: (0,1,0),(0,0,2)",
         b"\0\0\0\x01\0\0\0\0\0\0\0\x02",
@@ -98,6 +108,7 @@ fn defined_twice(edition2: u32) {
         2,
     );
     run(
+        rt,
         edition2,
         b"A,B: (0,1,0),(0,2,3)",
         b"\0\0\0\x01\0\0\0\0\0\x02\0\x03",
@@ -126,7 +137,7 @@ fn comp(name: u32) -> Comp {
 }
 
 // Runs `count` definitions over A, B, C and D, of which n are in the picture.
-fn run(edition2: u32, case: &[u8], f: &[u8], count: usize, n: u32) {
+fn run(rt: &impl Print, edition2: u32, case: &[u8], f: &[u8], count: usize, n: u32) {
     let a = comp(0);
     let b = comp(1);
     let c = comp(2);
@@ -140,5 +151,5 @@ fn run(edition2: u32, case: &[u8], f: &[u8], count: usize, n: u32) {
         cdef: list,
         edition2: edition2,
     };
-    say::came(case, lend::apply_four(f, definitions, cs, n));
+    say::came(rt, case, lend::apply_four(f, definitions, cs, n));
 }

@@ -1,38 +1,29 @@
--- The fewest digits that hold a number are its digits.
+-- The digits of a number below ten, and of one from ten on: those of a tenth of it, and the last.
 -- Assumes nothing.
-use Prim.Native.Nat.{ℕ, zero, suc, ◌+◌, ◌-◌, ◌/◌, ◌%◌, ◌^◌, ◌≤◌, ◌<◌}
-use native.Mathlib.Omega.{arith}
-use native.Mathlib.Nat.{pow-suc, one-le-pow}
-use borrow.Author.Tests.{lt-ltb}
-use mathlib.Core.Path.{◌≡◌, refl, ap, ap₂}
-use mathlib.Core.List.{[], ◌∷◌, ◌++◌}
-use Rattle.io.specs.Digits.{hex_digit_ascii, IsDigitCount}
-use Rattle.io.specs.Digits as io
-use Rattle.box_number.proofs.Rows.{row}
+use Rattle.std.proofs.Common.{◌≡◌, ℕ, zero, suc, ◌+◌, ◌/◌, ◌%◌, ◌<◌, ◌≤◌, List, [], ◌∷◌, ◌++◌, refl, sym, ap, ◌∙◌, arith, ltb, ltb-true, ltb-false}
+use Rattle.box_number.proofs.Rows.{row, either}
 use Rattle.text.specs.Text.{digits, decimal}
 
-last : (n : ℕ) → hex_digit_ascii (n % 10) ≡ 48 + n % 10
-last n = rw (lt-ltb (n % 10) 10 (omega arith)) refl
-
-digits_are : (fuel k n : ℕ) → n < fuel → IsDigitCount 10 1 n k → io.last_digits 10 k n ≡ digits fuel n
+-- the count of the digits that are tried does not matter
+enough : (fuel more n : ℕ) → n < fuel → n < more → digits fuel n ≡ digits more n
 unfolding digits
-digits_are zero k n l f = absurd (omega arith)
-digits_are (suc fuel) zero n l f = absurd (omega arith)
-digits_are (suc fuel) (suc zero) n l f =
-    let h : n < 10 = f.1 in
-    ap₂ ◌++◌ (row 0 _ h refl) (ap (λ (x : ℕ). x ∷ []) (last n))
-digits_are (suc fuel) (suc (suc k)) n l f =
-    let p = pow-suc 10 k in
-    let q = pow-suc 10 (suc k) in
-    let s : suc (suc k) - 1 ≡ suc k = omega arith in
-    let low : 10 ^ suc k ≤ n = rw s at (f.2 (omega arith)) in
-    let high : n < 10 ^ suc (suc k) = f.1 in
-    let one : 1 ≤ 10 ^ k = one-le-pow k 10 (omega arith) in
-    let ten : 10 ≤ n = omega arith in
-    let e : suc k - 1 ≡ k = omega arith in
-    let tenth : IsDigitCount 10 1 (n / 10) (suc k) = (omega arith, omega arith, λ h. rw e (omega arith)) in
-    ap₂ ◌++◌ (row 1 _ (ten, tt) (digits_are fuel (suc k) (n / 10) (omega arith) tenth)) (ap (λ (x : ℕ). x ∷ []) (last n))
+enough zero more n h k = absurd (omega arith)
+enough (suc fuel) zero n h k = absurd (omega arith)
+enough (suc fuel) (suc more) n h k =
+    either (ltb n 10)
+    (λ b. let l : n < 10 = ltb-true _ _ b in ap (λ (x : List ℕ). x ++ ((48 + n % 10) ∷ [])) (sym (row 0 _ l refl) ∙ row 0 _ l refl))
+    (λ b.
+    let l : 10 ≤ n = ltb-false _ _ b in
+    let e : digits fuel (n / 10) ≡ digits more (n / 10) = enough fuel more (n / 10) (omega arith) (omega arith) in
+    ap (λ (x : List ℕ). x ++ ((48 + n % 10) ∷ [])) (sym (row 1 _ (l, tt) refl) ∙ e ∙ row 1 _ (l, tt) refl))
 
-pub decimal-is : (n k : ℕ) → IsDigitCount 10 1 n k → io.last_digits 10 k n ≡ decimal n
-unfolding decimal
-decimal-is n k f = digits_are (suc n) k n (omega arith) f
+pub decimal-one : (n : ℕ) → n < 10 → (48 + n) ∷ [] ≡ decimal n
+unfolding decimal digits
+decimal-one n l =
+    let m : n % 10 ≡ n = omega arith in
+    rw m (ap (λ (x : List ℕ). x ++ ((48 + n) ∷ [])) (row 0 _ l refl))
+
+pub decimal-more : (n : ℕ) → 10 ≤ n → decimal (n / 10) ++ ((48 + n % 10) ∷ []) ≡ decimal n
+unfolding decimal digits
+decimal-more n l =
+    ap (λ (x : List ℕ). x ++ ((48 + n % 10) ∷ [])) (enough (suc (n / 10)) n (n / 10) (omega arith) (omega arith) ∙ row 1 _ (l, tt) refl)

@@ -1,5 +1,7 @@
 // Text that is put together in a lent list d. A function takes the place where the text goes, and answers the place after it.
 // What has no room in d is left out, so that nothing here can fail.
+#![tactic(auto)]
+
 ghost use Rattle.std.specs.Prelude.{◌≡◌, [], ◌∷◌, ◌++◌, length, drop};
 ghost use Rattle.box_number.specs.Number.{least};
 ghost use Rattle.text.specs.Text.{put, after, decimal, filled, joined, line};
@@ -29,12 +31,15 @@ pub fn text(d: &mut [u8], at: usize, s: &[u8]) -> usize
     k
 }
 
+// A number's decimal digits.
 fn number(d: &mut [u8], at: usize, n: usize) -> usize
     ensures { (result ≡ after d.old at (decimal n)) × (d.new ≡ put d.old at (decimal n)) }
 {
-    let mut digits = [0u8; 20];
-    let k = io::decimal(n as u64, &mut digits);
-    text(d, at, &digits[..k])
+    if n < 10 {
+        return byte(d, at, b'0' + n as u8);
+    }
+    let k = number(d, at, n / 10);
+    byte(d, k, b'0' + (n % 10) as u8)
 }
 
 // The byte of a shape that is replaced by a number.

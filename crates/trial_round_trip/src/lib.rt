@@ -1,4 +1,6 @@
 // Writing and reading back in one step.
+#![tactic(auto)]
+
 ghost use Rattle.std.specs.Prelude.{◌≡◌, length};
 ghost use Rattle.write_rules.specs.Writing.{write, destination};
 ghost use Rattle.write_rules.specs.Request.{request};
@@ -9,7 +11,7 @@ use read_rules::Reading;
 use write_boxes::Written;
 
 // What writing answered, and the reading of the bytes that were written: of none after a refusal.
-#[derive(Drop)]
+#[derive(Clone, Copy)]
 pub struct Back {
     pub written: Written,
     pub reading: Reading,

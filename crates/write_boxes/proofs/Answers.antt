@@ -3,10 +3,9 @@
 use Prim.Native.Nat.{ℕ, ◌≤◌, ◌<◌}
 use native.Mathlib.Omega.{arith}
 use mathlib.Core.Path.{◌≡◌, refl, sym, ◌∙◌}
-use mathlib.Core.Bool.{Bool, true, false, not}
+use mathlib.Core.Bool.{Bool, true, false}
 use mathlib.Core.List.{List}
 use lib.ListN.{length, length-append}
-use borrow.Author.Tests.{not-true, not-false}
 use Rattle.box_number.specs.Number.{placed}
 use Rattle.box_number.specs.Table.{◌=?◌, ◌≠?◌, ◌<?◌, ◌or◌, ◌and◌, holds}
 use Rattle.box_number.proofs.Rows.{Says, said, row}
@@ -35,11 +34,11 @@ written-done x d p q r = (rw (p, q) refl, rw p r)
 
 -- whether the picture has a height and a width
 module _ (s : Fields) {valid : Bool} (e : valid ≡ holds (s.h ≠? 0 and s.w ≠? 0)) where
-  pub without_area : not valid ≡ true → Says true (s.h =? 0 or s.w =? 0)
-  without_area h = said false (s.h ≠? 0 and s.w ≠? 0) (sym e ∙ not-true valid h)
+  pub without_area : valid ≡ false → Says true (s.h =? 0 or s.w =? 0)
+  without_area h = said false (s.h ≠? 0 and s.w ≠? 0) (sym e ∙ h)
 
-  pub with_area : not valid ≡ false → Says false (s.h =? 0 or s.w =? 0)
-  with_area h = said true (s.h ≠? 0 and s.w ≠? 0) (sym e ∙ not-false valid h)
+  pub with_area : valid ≡ true → Says false (s.h =? 0 or s.w =? 0)
+  with_area h = said true (s.h ≠? 0 and s.w ≠? 0) (sym e ∙ h)
 
 module _ (comps : List ℕ) (s : Fields) (profile : List ℕ) (codestream : ℕ) where
   pub front_length : length (front comps s profile codestream) ≡ length_of_front s (length profile)

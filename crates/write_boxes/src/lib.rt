@@ -1,4 +1,6 @@
 // The boxes of a file before its codestream (the writers of jp2.rs), one after the other into a lent list of bytes. All tests come first.
+#![tactic(auto)]
+
 ghost use Rattle.std.specs.Prelude.{ℕ, ◌+◌, ◌*◌, ◌≤◌, ◌<◌, ◌≡◌, false, ◌++◌, length};
 ghost use Rattle.box_number.specs.Number.{bytes, placed};
 ghost use Rattle.box_number.specs.Table.{◌≠?◌, ◌and◌, holds, Says};
@@ -62,7 +64,7 @@ const MOST_PROFILE: usize = 16777215;
 const MOST_CODESTREAM: u64 = 4261412863;
 
 // The count of bytes written, which is where the codestream goes; or document 01's number, with the index or the needed length.
-#[derive(Drop)]
+#[derive(Clone, Copy)]
 pub enum Written {
     Bytes(u32),
     Refused(u32, u64),

@@ -7,7 +7,7 @@ use mathlib.Core.Bool.{false}
 use native.Mathlib.Nat.{mod-lt}
 use native.Mathlib.Omega.{arith}
 use lib.ListN.{length}
-use Rattle.box_number.specs.Table.{◌=?◌, ◌≠?◌}
+use Rattle.box_number.specs.Table.{◌=?◌}
 use Rattle.box_number.proofs.Rows.{Says, row, each}
 use Rattle.read_channels.specs.Definitions.{Def}
 use Rattle.box_number.proofs.Indices.{decide, lowest-none}

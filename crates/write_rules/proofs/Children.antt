@@ -1,10 +1,10 @@
 -- The boxes of jp2h that were written, each as its reader takes it.
 -- Assumes nothing.
-use Prim.Native.Nat.{ℕ, ◌+◌, ◌-◌, ◌*◌, ◌<◌}
+use Prim.Native.Nat.{ℕ, ◌+◌, ◌-◌, ◌<◌}
 use mathlib.Core.Path.{◌≡◌, refl, sym, ap, ◌∙◌}
 use mathlib.Core.List.{List, ◌++◌}
 use native.Mathlib.Omega.{arith}
-use lib.ListN.{length, length-append}
+use lib.ListN.{length}
 use Rattle.box_number.specs.Number.{number, bytes}
 use Rattle.box_number.specs.Table.{table}
 use Rattle.box_number.proofs.Rows.{row}
@@ -25,7 +25,7 @@ use Rattle.write_rules.specs.Request.{Request}
 use Rattle.write_rules.specs.Bpcc.{bpcc_content}
 use Rattle.write_rules.specs.Ihdr.{ihdr_content}
 use Rattle.write_rules.specs.Box.{series}
-use Rattle.write_rules.specs.Setup.{BPCi, C, UnkC, IPR, PREC, APPROX, written_definition, fields_of}
+use Rattle.write_rules.specs.Setup.{C, UnkC, IPR, PREC, APPROX, written_definition, fields_of}
 use Rattle.write_rules.specs.Colr.{specification, colr_content}
 use Rattle.write_rules.specs.Cdef.{cdef_entry, cdef_content}
 use Rattle.write_rules.proofs.Numbers.{number-here, number-last, number-after}

@@ -128,7 +128,7 @@ cases =
     grey gives written (grey_boxes ++ grey_stream) ∣
     -- grey and its opacity
     opaque gives written opaque_boxes ∣
-    -- srgb and sycc, with three colours and an opacity behind a channel of which nothing is said
+    -- sRGB and sYCC, with three colours and an opacity behind a channel of which nothing is said
     request_for (plain 4 ++ comp 8 0 1) 5 1 0 200 gives written (start ++ eight 85 5 ++ colr_space 16 ++ five ++ grey_stream) ∣
     request_for (plain 4 ++ comp 8 0 2) 5 3 0 200 gives written (start ++ eight 85 5 ++ colr_space 18 ++ five ++ grey_stream) ∣
     -- no cdef where a colour is marked, where two components are, and where the colour space is another

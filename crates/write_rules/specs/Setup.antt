@@ -59,7 +59,7 @@ PREC = 0
 abbrev pub APPROX : ℕ
 APPROX = 0
 
--- EnumCS of srgb, greyscale and sycc
+-- EnumCS of sRGB, greyscale and sYCC
 abbrev pub srgb : ℕ
 srgb = 16
 

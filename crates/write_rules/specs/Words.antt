@@ -27,7 +27,7 @@ SignTold r c = (sign_of r.components c ≡ sign_of r.components 0) ⊎ ((d : ℕ
 unfoldable pub enumcs_of : ℕ → ℕ
 enumcs_of space = table (space =? 1 ⇒ 16 ∣ space =? 2 ⇒ 17 ∣ space =? 3 ⇒ 18 ∣ otherwise 0)
 
--- the count of colours: srgb has 3, grey 1, sycc 3; of another colour space it is not known
+-- the count of colours: sRGB has 3, grey 1, sYCC 3; of another colour space it is not known
 unfoldable pub colour_count : ℕ → ℕ
 colour_count space = table (space =? 1 ⇒ 3 ∣ space =? 2 ⇒ 1 ∣ space =? 3 ⇒ 3 ∣ otherwise 0)
 

@@ -1,4 +1,6 @@
 // What is to be written of a picture (`opj_jp2_setup_encoder` of jp2.rs): the fields of all boxes, from its components, corners, colour space and profile.
+#![tactic(auto)]
+
 ghost use Rattle.std.specs.Prelude.{◌≡◌, false};
 ghost use Rattle.box_number.specs.Table.{◌≠?◌, otherwise, ◌⇒◌∣◌, holds, table, Says};
 ghost use Rattle.box_number.specs.Lowest.{lowest};
@@ -92,7 +94,7 @@ fn method(profile: &[u8]) -> u32
     PROFILE
 }
 
-// The enumerated colour space: srgb, greyscale or sycc; 0 with a profile, and where it is another.
+// The enumerated colour space: sRGB, greyscale or sYCC; 0 with a profile, and where it is another.
 fn enumerated(meth: u32, space: u32) -> u32
     ensures { result ≡ EnumCS meth space }
 {

@@ -1,0 +1,107 @@
+// The four entries of `cuzhantir` by their names in C (include/cuzhantir_jp2.h). Each calls the one of its name there and promises the same.
+#![tactic(auto)]
+
+ghost use Rattle.std.specs.Prelude.{◌≡◌, length};
+ghost use Rattle.box_number.specs.Number.{placed};
+ghost use Rattle.read_record.specs.Record.{blank};
+ghost use Rattle.picture_rules.specs.Answers.{answered, records_after, samples_after};
+ghost use Rattle.picture_rules.specs.Handed.{settings};
+ghost use Rattle.picture_rules.specs.Whole.{handed, pictured};
+ghost use Rattle.write_rules.specs.Writing.{write, destination};
+ghost use Rattle.write_rules.specs.Request.{request};
+ghost use Rattle.export_rules.specs.Places.{reading_length, answer_length};
+ghost use Rattle.export_rules.specs.Room.{room};
+ghost use Rattle.export_rules.specs.Numbers.{numbers, refusal_number};
+ghost use Rattle.export_rules.specs.Answers.{of_finished, of_written, returned};
+ghost use Rattle.export_rules.specs.FinishReading.{finish_reading};
+ghost use Rattle.export_rules.specs.TwoSteps.{ReadingOf};
+ghost use Rattle.export_rules.specs.Rule.{ToldRight};
+ghost use Rattle.export_rules.specs.CutTold.{CutTold};
+ghost use Rattle.read_rules.specs.File as jp2;
+ghost use Rattle.write_boxes.specs.Answers as written;
+
+// Reads a file and gives the 44 numbers of its reading. Where reading has no room for them nothing is done.
+// The last clause is request R-1: where the file was broken off, the numbers agree with the whole file.
+#[unsafe(no_mangle)]
+pub extern "C" fn cuzhantir_read(file: &[u8], reading: &mut [u64]) -> u32
+    ensures value { result ≡ room reading_length reading.old 30 (refusal_number (jp2.reading blank (jp2.read file.now)).answer) }
+    ensures reading_after { reading.new ≡ room reading_length reading.old reading.old (placed reading.old 0 (numbers (jp2.reading blank (jp2.read file.now)))) }
+    ensures cut_told { CutTold file.now reading.old reading.new }
+{
+    cuzhantir::cuzhantir_read(file, reading)
+}
+
+// Reads a file, finishes its picture and gives the 4 numbers of the answer. Where answer has no room for them nothing is done. The flag edition2 picks the edition of the camera rules: 0 is edition 1, any other number edition 2.
+// The last clause is demand 3: where the answer is "done", every sample of the finished planes in the destinations is the right one, in whatever order the file has its definitions; and in edition 2 every mark is its own channel's.
+#[unsafe(no_mangle)]
+pub extern "C" fn cuzhantir_picture(
+    file: &[u8],
+    ignore: u32,
+    edition2: u32,
+    comps: &[u32],
+    count: u32,
+    samples: &[i32],
+    records: &mut [u32],
+    planes: &mut [i32],
+    answer: &mut [u64],
+) -> u32
+    ensures value { result ≡ room answer_length answer.old 30 (returned (of_finished (answered (pictured (handed file.now (settings ignore edition2) comps.now count samples.now records.old planes.old))))) }
+    ensures answer_after { answer.new ≡ room answer_length answer.old answer.old (placed answer.old 0 (of_finished (answered (pictured (handed file.now (settings ignore edition2) comps.now count samples.now records.old planes.old))))) }
+    ensures records_after { records.new ≡ room answer_length answer.old records.old (records_after (pictured (handed file.now (settings ignore edition2) comps.now count samples.now records.old planes.old)) records.old) }
+    ensures planes_after { planes.new ≡ room answer_length answer.old planes.old (samples_after (pictured (handed file.now (settings ignore edition2) comps.now count samples.now records.old planes.old)) planes.old) }
+    ensures told_right { ToldRight (handed file.now (settings ignore edition2) comps.now count samples.now records.old planes.old) answer.old answer.new records.new planes.old planes.new }
+{
+    cuzhantir::cuzhantir_picture(
+        file, ignore, edition2, comps, count, samples, records, planes, answer,
+    )
+}
+
+// Finishes a picture whose file was read before: reading has the 44 numbers of that reading. It gives the 4 numbers of the answer; where answer has no room for them nothing is done.
+// The last clause is demand 3, as for both in one step, where reading begins with the numbers that `cuzhantir_read` gives for this file.
+#[unsafe(no_mangle)]
+pub extern "C" fn cuzhantir_finish(
+    file: &[u8],
+    reading: &[u64],
+    ignore: u32,
+    edition2: u32,
+    comps: &[u32],
+    count: u32,
+    samples: &[i32],
+    records: &mut [u32],
+    planes: &mut [i32],
+    answer: &mut [u64],
+) -> u32
+    ensures value { result ≡ room answer_length answer.old 30 (returned (of_finished (answered (finish_reading (handed file.now (settings ignore edition2) comps.now count samples.now records.old planes.old) reading.now)))) }
+    ensures answer_after { answer.new ≡ room answer_length answer.old answer.old (placed answer.old 0 (of_finished (answered (finish_reading (handed file.now (settings ignore edition2) comps.now count samples.now records.old planes.old) reading.now)))) }
+    ensures records_after { records.new ≡ room answer_length answer.old records.old (records_after (finish_reading (handed file.now (settings ignore edition2) comps.now count samples.now records.old planes.old) reading.now) records.old) }
+    ensures planes_after { planes.new ≡ room answer_length answer.old planes.old (samples_after (finish_reading (handed file.now (settings ignore edition2) comps.now count samples.now records.old planes.old) reading.now) planes.old) }
+    ensures told_right { ReadingOf file.now reading.now → ToldRight (handed file.now (settings ignore edition2) comps.now count samples.now records.old planes.old) answer.old answer.new records.new planes.old planes.new }
+{
+    cuzhantir::cuzhantir_finish(
+        file, reading, ignore, edition2, comps, count, samples, records, planes, answer,
+    )
+}
+
+// Writes all boxes before a codestream of the given length and the header of its box, and gives the 4 numbers of the answer. Where answer has no room for them nothing is done.
+#[unsafe(no_mangle)]
+pub extern "C" fn cuzhantir_write(
+    comps: &[u32],
+    count: u32,
+    x0: u32,
+    y0: u32,
+    x1: u32,
+    y1: u32,
+    space: u32,
+    profile: &[u8],
+    codestream: u64,
+    d: &mut [u8],
+    answer: &mut [u64],
+) -> u32
+    ensures value { result ≡ room answer_length answer.old 30 (returned (of_written (written.answered (write (request comps.now count x0 y0 x1 y1 space profile.now codestream (length d.old)))))) }
+    ensures answer_after { answer.new ≡ room answer_length answer.old answer.old (placed answer.old 0 (of_written (written.answered (write (request comps.now count x0 y0 x1 y1 space profile.now codestream (length d.old)))))) }
+    ensures d_after { d.new ≡ room answer_length answer.old d.old (destination d.old (write (request comps.now count x0 y0 x1 y1 space profile.now codestream (length d.old)))) }
+{
+    cuzhantir::cuzhantir_write(
+        comps, count, x0, y0, x1, y1, space, profile, codestream, d, answer,
+    )
+}
