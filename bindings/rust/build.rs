@@ -6,7 +6,7 @@ use std::process::exit;
 
 const LIBRARY: &str = "libcuzhantir.a";
 
-/// The folder that the caller names, else the one that `rt staticlib` writes to; its full name where it is there.
+/// The folder that the caller names, else the one that `tools/rt-once staticlib` writes to; its full name where it is there.
 fn folder() -> PathBuf {
     let folder = match env::var_os("CUZHANTIR_LIB_DIR") {
         Some(named) => PathBuf::from(named),
@@ -28,7 +28,7 @@ fn main() {
     }
     if !library.is_file() {
         println!(
-            "cargo::error=no {LIBRARY} in {}: run `rt staticlib cuzhantir` in the repository, or name the folder that has it in CUZHANTIR_LIB_DIR",
+            "cargo::error=no {LIBRARY} in {}: run `tools/rt-once staticlib cuzhantir` in the repository, or name the folder that has it in CUZHANTIR_LIB_DIR",
             folder.display()
         );
         exit(1);
