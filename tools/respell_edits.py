@@ -16,7 +16,6 @@ sys.path.insert(0, os.path.dirname(os.path.realpath(__file__)))
 import respell
 
 DROPPED = set(" ()._-·'\u2018\u2019«»\t")
-SAME = {"getd": "getor", "thevariants": "thevariants", "isfullwith": "fullwith"}
 
 
 def letters(text):

@@ -1,5 +1,4 @@
 // A file by its name, into the room that is lent. Where that fails, standard error has a line with the name and the reason.
-ghost use Rattle.std.specs.Prelude.{◌≤◌, length};
 ghost use Rattle.jp2info.specs.Private.Load.{LiesIn};
 
 use crate::quote;
@@ -36,7 +35,7 @@ pub(crate) fn load<R: Files>(rt: &R, err: &impl Print, name: &[u8], room: &mut [
 fn read(err: &impl Print, file: &mut impl Read, name: &[u8], room: &mut [u8]) -> Loaded
     ensures { LiesIn result room.new }
 {
-    let n = read_full(file, room);
+    let n = text::input::read_full(file, room);
     let mut more = [0u8; 1];
     match file.read(&mut more) {
         Ok(got) => {
@@ -58,24 +57,6 @@ fn read(err: &impl Print, file: &mut impl Read, name: &[u8], room: &mut [u8]) ->
         complain(err, name, b": empty file\n");
     }
     Loaded::Whole(n)
-}
-
-// Reads until the room is full, the file ends or a read fails. Answers how many bytes were read.
-fn read_full(file: &mut impl Read, room: &mut [u8]) -> usize
-    ensures { result ≤ length room.new }
-{
-    let mut n = 0;
-    while n < room.len() {
-        let got = match file.read(&mut room[n..]) {
-            Ok(got) => got,
-            Err(_) => 0,
-        };
-        if got == 0 {
-            break;
-        }
-        n += got;
-    }
-    n
 }
 
 // The reason is the system's text, of 256 bytes at most. With its number, which is left out again, it has room.

@@ -4,7 +4,7 @@
 
 ghost use Rattle.std.specs.Prelude.{◌≡◌, length};
 
-use test_lines::{count, read_full, say};
+use test_lines::{count, say};
 
 mod compare;
 mod list;
@@ -20,7 +20,7 @@ const MOST: usize = 128;
 
 fn main(rt: HostRuntime) {
     let mut list = list_room();
-    let n = read_full(&mut rt.stdin(), &mut list);
+    let n = text::input::read_full(&mut rt.stdin(), &mut list);
     let mut room = samples_room();
     let second = replay(&rt, EDITION_1, &list[..n], &mut room);
     say(&rt, b"In edition 2:\n", &[]);

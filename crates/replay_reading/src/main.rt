@@ -5,7 +5,7 @@
 
 ghost use Rattle.std.specs.Prelude.{◌≤◌, ◌≡◌, length};
 
-use test_lines::{at, count, read_full, say};
+use test_lines::{at, count, say};
 
 // How many numbers a reading has.
 const READING_LENGTH: usize = 44;
@@ -22,7 +22,7 @@ const DIFFERING: usize = 26;
 
 fn main(rt: HostRuntime) {
     let mut list = room();
-    let n = read_full(&mut rt.stdin(), &mut list);
+    let n = text::input::read_full(&mut rt.stdin(), &mut list);
     let mut tally = [0usize; 27];
     let cases = each_case(&rt, &list[..n], &mut tally);
     say(&rt, b"cases: #\n", &[cases as usize]);

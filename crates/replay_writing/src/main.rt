@@ -9,7 +9,7 @@
 
 ghost use Rattle.std.specs.Prelude.{◌≤◌, ◌≡◌, length};
 
-use test_lines::{at, count, read_full, say};
+use test_lines::{at, count, say};
 
 // The numbers of a case: the lengths of the components, the profile, the codestream's high and low word, the destination; then the answer.
 const COMPS: usize = 0;
@@ -42,7 +42,7 @@ const DIFFERING: usize = 35;
 
 fn main(rt: HostRuntime) {
     let mut list = room();
-    let n = read_full(&mut rt.stdin(), &mut list);
+    let n = text::input::read_full(&mut rt.stdin(), &mut list);
     let mut comps = [0u32; MOST];
     let mut d = [0u8; MOST];
     let mut tally = [0usize; 36];

@@ -1,11 +1,9 @@
 // What the test programs share: lines on standard output, and counts of the results.
 #![tactic(auto)]
 
-ghost use Rattle.std.specs.Prelude.{◌≡◌, ◌≤◌, length, slice_index};
+ghost use Rattle.std.specs.Prelude.{◌≡◌, length, slice_index};
 ghost use Rattle.text.specs.Text.{filled};
 ghost use Rattle.test_lines.specs.Lines.{printed, tallied};
-
-use std::io::Read;
 
 // Prints a shape in which each # is replaced by the next of the numbers. Answers how many bytes that is: 4096 at most, the rest is left out.
 pub fn say(rt: &impl Print, shape: &[u8], numbers: &[usize]) -> usize
@@ -36,23 +34,6 @@ pub fn bytes(rt: &impl Print, s: &[u8]) -> usize
 
 fn byte(rt: &impl Print, b: u8) {
     let _ = print!(rt; " {b:02x}");
-}
-
-// Reads until d is full, or the input ends or fails. Answers how many bytes that is.
-pub fn read_full(input: &mut impl Read, d: &mut [u8]) -> usize
-    ensures { result ≤ length d.new }
-{
-    let mut n = 0;
-    while n < d.len() {
-        let Ok(got) = input.read(&mut d[n..]) else {
-            break;
-        };
-        if got == 0 {
-            break;
-        }
-        n += got;
-    }
-    n
 }
 
 // Adds 1 to count k of a tally; a k past its end changes nothing.

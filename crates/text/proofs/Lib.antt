@@ -2,3 +2,4 @@ pub mod Puts
 pub mod Decimals
 pub mod Shapes
 pub mod Lines
+pub mod Rooms

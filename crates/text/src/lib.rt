@@ -1,5 +1,5 @@
 // Text that is put together in a lent list d. A function takes the place where the text goes, and answers the place after it.
-// What has no room in d is left out, so that nothing here can fail.
+// What has no room in d is left out, so that nothing here can fail. The module `input` reads into a lent list.
 #![tactic(auto)]
 
 ghost use Rattle.std.specs.Prelude.{◌≡◌, [], ◌∷◌, ◌++◌, length, drop};
@@ -7,6 +7,8 @@ ghost use Rattle.box_number.specs.Number.{least};
 ghost use Rattle.text.specs.Text.{put, after, decimal, filled, joined, line};
 ghost use Rattle.text.specs.Row.{values};
 ghost use Rattle.text.specs.Private.Parts.{letter, marks, gap};
+
+pub mod input;
 
 fn byte(d: &mut [u8], at: usize, b: u8) -> usize
     ensures { (result ≡ after d.old at (b ∷ [])) × (d.new ≡ put d.old at (b ∷ [])) }

@@ -1,10 +1,6 @@
--- A law gives the length, so that nothing writes the list out.
-use Rattle.std.proofs.Common.{◌≡◌, ℕ, length, sym}
-use lib.ListN.{replicate, length-replicate}
+use Rattle.std.proofs.Common.{ℕ}
+use Rattle.text.proofs.Rooms.{long}
 use Rattle.jp2info.proofs.room.Goals as goal
 
-long : (n : ℕ) → n ≡ length {A = ℕ} (replicate n 0)
-long n = sym (length-replicate n 0)
-
 pub returns : goal.returns
-returns c = long 5242880
+returns c = long {A = ℕ} 5242880 0

@@ -1,5 +1,5 @@
 use Rattle.std.proofs.Common.{ℕ}
-use Rattle.replay_picture.proofs.Rooms.{long}
+use Rattle.text.proofs.Rooms.{long}
 use Rattle.replay_picture.proofs.list_room.Goals as goal
 
 pub returns : goal.returns

@@ -1,9 +1,6 @@
-use Rattle.std.proofs.Common.{◌≡◌, ℕ, length, sym}
-use lib.ListN.{replicate, length-replicate}
+use Rattle.std.proofs.Common.{ℕ}
+use Rattle.text.proofs.Rooms.{long}
 use Rattle.replay_reading.proofs.room.Goals as goal
 
-long : (n : ℕ) → n ≡ length {A = ℕ} (replicate n 0)
-long n = sym (length-replicate n 0)
-
 pub returns : goal.returns
-returns c = long 1500000
+returns c = long {A = ℕ} 1500000 0

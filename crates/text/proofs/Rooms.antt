@@ -1,4 +1,4 @@
--- The length of a room: a law at a variable, so that nothing writes the list out.
+-- The length of a list of equal elements, into which a program reads: a law at a variable, so that nothing writes the list out.
 -- Assumes nothing.
 use mathlib.Core.Path.{◌≡◌, sym}
 use Prim.Native.Nat.{ℕ}

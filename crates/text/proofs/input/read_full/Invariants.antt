@@ -1,8 +1,8 @@
 use Rattle.std.proofs.Common.{◌-◌, ◌≤◌, length}
-use Rattle.jp2info.proofs.load.read_full.Given as goal
+use Rattle.text.proofs.input.read_full.Given as goal
 
 abbrev pub invariant-loop-n : goal.invariant-loop-n
-invariant-loop-n g l = l.n ≤ length l.room
+invariant-loop-n g l = l.n ≤ length l.d
 
 abbrev pub decreases-loop-n : goal.decreases-loop-n
-decreases-loop-n g l = length l.room - l.n
+decreases-loop-n g l = length l.d - l.n
