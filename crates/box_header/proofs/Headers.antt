@@ -10,8 +10,8 @@ use Rattle.box_kind.specs.Kind.{kind_of}
 use Rattle.box_kind.specs.declared.Jp2BoxType.{Jp2BoxType}
 use Rattle.box_header.specs.Box.{LBox, length_of_header, box_length, header_of, header, child_header}
 use Rattle.box_header.specs.declared.Jp2BoxHeader.{Jp2BoxHeader}
-use Rattle.box_header.specs.declared.ReadHeader.{ReadHeader}
-use Rattle.box_header.specs.declared.ReadHeader.TheVariants.{Header, NoBytes, Cut, HighWord, LengthZero}
+use Rattle.std.specs.Prelude.{Result, Ok, Err}
+use Rattle.box_header.specs.declared.NoHeader.{NoHeader}
 use Rattle.box_number.proofs.Rows.{row, each}
 
 module _ (c : List ℕ) where
@@ -40,7 +40,7 @@ module _ (c : List ℕ) where
   box-plain h k = sym (row 2 _ (omega arith) refl)
 
   -- a header of three fields that are those of the bytes
-  pub header_made : {l h n : ℕ} {t : Jp2BoxType} → l ≡ box_length c → n ≡ number c 4 4 → t ≡ kind_of n → h ≡ length_of_header c → Header (record { length = l; ty = t; header_length = h }) ≡ Header (header_of c)
+  pub header_made : {l h n : ℕ} {t : Jp2BoxType} → l ≡ box_length c → n ≡ number c 4 4 → t ≡ kind_of n → h ≡ length_of_header c → ◌≡◌ {A = Result Jp2BoxHeader NoHeader} (Ok (record { length = l; ty = t; header_length = h })) (Ok (header_of c))
   header_made p q r o = cc
 
 -- a header that was found at c, and lies in it
@@ -52,26 +52,20 @@ pub record Headed (c : List ℕ) (h : Jp2BoxHeader) : Type 0 where
   pub low : box_length c ≤ 4294967295
 
 -- what an answer says of the bytes: the header is there, or P
-abbrev Shown : (Jp2BoxHeader → Type 0) → Type 0 → ReadHeader → Type 0
-Shown H P (Header h) = H h
-Shown H P NoBytes = P
-Shown H P Cut = P
-Shown H P HighWord = P
-Shown H P LengthZero = P
+abbrev Shown : (Jp2BoxHeader → Type 0) → Type 0 → Result Jp2BoxHeader NoHeader → Type 0
+Shown H P (Ok h) = H h
+Shown H P (Err e) = P
 
 module _ (H : Jp2BoxHeader → Type 0) (P : Type 0) where
-  shown-header : {r s : ReadHeader} {h : Jp2BoxHeader} → Shown H P s → r ≡ s → r ≡ Header h → H h
+  shown-header : {r s : Result Jp2BoxHeader NoHeader} {h : Jp2BoxHeader} → Shown H P s → r ≡ s → r ≡ Ok h → H h
   shown-header p e f = subst (Shown H P) (sym e ∙ f) p
 
-  shown-missing : (r : ReadHeader) {s : ReadHeader} → Shown H P s → r ≡ s → ((h : Jp2BoxHeader) → r ≡ Header h → ⊥) → P
+  shown-missing : (r : Result Jp2BoxHeader NoHeader) {s : Result Jp2BoxHeader NoHeader} → Shown H P s → r ≡ s → ((h : Jp2BoxHeader) → r ≡ Ok h → ⊥) → P
   shown-missing r p e = go r (subst (Shown H P) (sym e) p)
     where
-      go : (r : ReadHeader) → Shown H P r → ((h : Jp2BoxHeader) → r ≡ Header h → ⊥) → P
-      go (Header h) q m = absurd (m h refl)
-      go NoBytes q m = q
-      go Cut q m = q
-      go HighWord q m = q
-      go LengthZero q m = q
+      go : (r : Result Jp2BoxHeader NoHeader) → Shown H P r → ((h : Jp2BoxHeader) → r ≡ Ok h → ⊥) → P
+      go (Ok h) q m = absurd (m h refl)
+      go (Err e) q m = q
 
 module _ (c : List ℕ) where
   abbrev NoBox : Type 0
@@ -83,10 +77,10 @@ module _ (c : List ℕ) where
       each (Shown (Headed c) NoBox) _
       ((λ h k. omega (arith, header-least c)), λ h. ((λ k l. omega arith), λ k. ((λ l m. l), λ l. record { is = refl; long = refl; head = refl; whole = k; low = l })))
 
-  pub header-found : {r : ReadHeader} {h : Jp2BoxHeader} → r ≡ header c → r ≡ Header h → Headed c h
+  pub header-found : {r : Result Jp2BoxHeader NoHeader} {h : Jp2BoxHeader} → r ≡ header c → r ≡ Ok h → Headed c h
   header-found = shown-header (Headed c) NoBox header-shows
 
-  pub header-missing : (r : ReadHeader) → r ≡ header c → ((h : Jp2BoxHeader) → r ≡ Header h → ⊥) → length_of_header c ≤ length c → 4294967295 < box_length c
+  pub header-missing : (r : Result Jp2BoxHeader NoHeader) → r ≡ header c → ((h : Jp2BoxHeader) → r ≡ Ok h → ⊥) → length_of_header c ≤ length c → 4294967295 < box_length c
   header-missing r = shown-missing (Headed c) NoBox r header-shows
 
   -- inside a superbox
@@ -102,17 +96,14 @@ module _ (c : List ℕ) where
       each (Shown InSuperbox NoChild) _
       ((λ h. carry (header c) header-shows (λ k z. omega (arith, header-least c))), λ h. ((λ z k l. absurd (l z)), λ z. carry (header c) header-shows (λ k. z)))
     where
-      carry : (r : ReadHeader) → Shown (Headed c) NoBox r → (length_of_header c ≤ length c → LBox c ≡ 0 → ⊥) → Shown InSuperbox NoChild r
-      carry (Header h) s n = (s, n s.whole)
-      carry NoBytes s n = λ k l. s k
-      carry Cut s n = λ k l. s k
-      carry HighWord s n = λ k l. s k
-      carry LengthZero s n = λ k l. s k
+      carry : (r : Result Jp2BoxHeader NoHeader) → Shown (Headed c) NoBox r → (length_of_header c ≤ length c → LBox c ≡ 0 → ⊥) → Shown InSuperbox NoChild r
+      carry (Ok h) s n = (s, n s.whole)
+      carry (Err e) s n = λ k l. s k
 
-  pub child-found : {r : ReadHeader} {h : Jp2BoxHeader} → r ≡ child_header c → r ≡ Header h → Headed c h × (LBox c ≡ 0 → ⊥)
+  pub child-found : {r : Result Jp2BoxHeader NoHeader} {h : Jp2BoxHeader} → r ≡ child_header c → r ≡ Ok h → Headed c h × (LBox c ≡ 0 → ⊥)
   child-found = shown-header InSuperbox NoChild child-shows
 
-  pub child-missing : (r : ReadHeader) → r ≡ child_header c → ((h : Jp2BoxHeader) → r ≡ Header h → ⊥) → length_of_header c ≤ length c → (LBox c ≡ 0 → ⊥) → 4294967295 < box_length c
+  pub child-missing : (r : Result Jp2BoxHeader NoHeader) → r ≡ child_header c → ((h : Jp2BoxHeader) → r ≡ Ok h → ⊥) → length_of_header c ≤ length c → (LBox c ≡ 0 → ⊥) → 4294967295 < box_length c
   child-missing r = shown-missing InSuperbox NoChild r child-shows
 
 -- a box's content, by where it ends and by how long it is

@@ -1,12 +1,12 @@
 -- I.4: a box is LBox (4 bytes), TBox (4), XLBox (8, only where LBox is 1), and its content. Here c is the bytes from the box's first to the last that it may have.
-use Rattle.std.specs.Prelude.{ℕ, ◌+◌, Bool, true, false, List, ◌++◌, length}
+use Rattle.std.specs.Prelude.{ℕ, ◌+◌, Bool, true, false, List, ◌++◌, length, Result, Ok, Err}
 use Rattle.box_number.specs.Table.{Test, ◌=?◌, ◌<?◌, otherwise, ◌⇒◌∣◌, table}
 use Rattle.box_number.specs.Number.{number, bytes, placed}
 use Rattle.box_kind.specs.Kind.{kind_of, number_of}
 use Rattle.box_kind.specs.declared.Jp2BoxType.{Jp2BoxType}
 use Rattle.box_header.specs.declared.Jp2BoxHeader.{Jp2BoxHeader}
-use Rattle.box_header.specs.declared.ReadHeader.{ReadHeader}
-use Rattle.box_header.specs.declared.ReadHeader.TheVariants.{Header, NoBytes, Cut, HighWord, LengthZero}
+use Rattle.box_header.specs.declared.NoHeader.{NoHeader}
+use Rattle.box_header.specs.declared.NoHeader.TheVariants.{NoBytes, Cut, HighWord, LengthZero}
 
 -- the largest length that 32 bits hold, and with it the longest file that is read
 abbrev pub largest : ℕ
@@ -32,17 +32,17 @@ abbrev pub header_of : List ℕ → Jp2BoxHeader
 header_of c = record { length = box_length c; ty = kind_of (TBox c); header_length = length_of_header c }
 
 -- the three ways in which a header is missing; a length has 32 bits, and one with a high word is an answer of its own (difference 3)
-unfoldable pub header : List ℕ → ReadHeader
+unfoldable pub header : List ℕ → Result Jp2BoxHeader NoHeader
 header c =
     table
-    (length c =? 0 ⇒ NoBytes
-    ∣ length c <? length_of_header c ⇒ Cut
-    ∣ largest <? box_length c ⇒ HighWord
-    ∣ otherwise (Header (header_of c)))
+    (length c =? 0 ⇒ Err NoBytes
+    ∣ length c <? length_of_header c ⇒ Err Cut
+    ∣ largest <? box_length c ⇒ Err HighWord
+    ∣ otherwise (Ok (header_of c)))
 
 -- inside a superbox LBox 0 is an answer of its own too: only the last box of the file may reach to an end that it does not name (difference 19)
-unfoldable pub child_header : List ℕ → ReadHeader
-child_header c = table (length c <? 8 ⇒ header c ∣ LBox c =? 0 ⇒ LengthZero ∣ otherwise (header c))
+unfoldable pub child_header : List ℕ → Result Jp2BoxHeader NoHeader
+child_header c = table (length c <? 8 ⇒ header c ∣ LBox c =? 0 ⇒ Err LengthZero ∣ otherwise (header c))
 
 -- what an answer means to a walk through boxes: a box to look at, the end of the boxes, or a refusal by one of document 01's numbers
 pub data HeaderMeaning : Type 0 where
@@ -51,20 +51,20 @@ pub data HeaderMeaning : Type 0 where
   refuses : ℕ → HeaderMeaning
 
 -- inside jp2h: its boxes end where no bytes are left; a header that is cut, has a high word or has length 0 is refused with 10
-abbrev pub in_jp2h : ReadHeader → HeaderMeaning
-in_jp2h (Header h) = goes_on h
-in_jp2h NoBytes = ends
-in_jp2h Cut = refuses 10
-in_jp2h HighWord = refuses 10
-in_jp2h LengthZero = refuses 10
+abbrev pub in_jp2h : Result Jp2BoxHeader NoHeader → HeaderMeaning
+in_jp2h (Ok h) = goes_on h
+in_jp2h (Err NoBytes) = ends
+in_jp2h (Err Cut) = refuses 10
+in_jp2h (Err HighWord) = refuses 10
+in_jp2h (Err LengthZero) = refuses 10
 
 -- in the file: a header that is missing ends the walk and is no refusal. LengthZero is no answer of `header`, since there length 0 means to the end of the file
-abbrev pub in_file : ReadHeader → HeaderMeaning
-in_file (Header h) = goes_on h
-in_file NoBytes = ends
-in_file Cut = ends
-in_file HighWord = ends
-in_file LengthZero = ends
+abbrev pub in_file : Result Jp2BoxHeader NoHeader → HeaderMeaning
+in_file (Ok h) = goes_on h
+in_file (Err NoBytes) = ends
+in_file (Err Cut) = ends
+in_file (Err HighWord) = ends
+in_file (Err LengthZero) = ends
 
 -- the header of a box without content
 abbrev pub new_header : Jp2BoxType → Jp2BoxHeader

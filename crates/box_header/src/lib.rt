@@ -17,10 +17,9 @@ pub struct Jp2BoxHeader {
     pub header_length: u32,
 }
 
-// The answer of reading a header: the header, or one of the ways in which there is none.
-#[derive(Clone, Copy)]
-pub enum ReadHeader {
-    Header(Jp2BoxHeader),
+// The ways in which a header is missing.
+#[derive(Clone, Copy, Debug, PartialEq, Eq)]
+pub enum NoHeader {
     NoBytes,
     Cut,
     HighWord,
@@ -39,23 +38,24 @@ impl Jp2BoxHeader {
         }
     }
 
-    // The header of a box of the file: c is the file's bytes from the box's first to the last.
-    pub fn from_stream(c: &[u8]) -> ReadHeader
+    // The header of a box of the file: c is the file's bytes from the box's first to the last. A part of its caller, since a call takes a fifth of a turn of the walk.
+    #[inline(always)]
+    pub fn from_stream(c: &[u8]) -> Result<Self, NoHeader>
         ensures { result ≡ header c.now }
     {
         if c.len() == 0 {
-            return ReadHeader::NoBytes;
+            return Err(NoHeader::NoBytes);
         }
         if c.len() < 8 {
-            return ReadHeader::Cut;
+            return Err(NoHeader::Cut);
         }
         let lbox = box_number::read_u32(c, 0);
-        let ty = Jp2BoxType::from_u32(box_number::read_u32(c, 4));
+        let ty = Jp2BoxType::from(box_number::read_u32(c, 4));
         if lbox == 0 {
             if LARGEST < c.len() {
-                return ReadHeader::HighWord;
+                return Err(NoHeader::HighWord);
             }
-            return ReadHeader::Header(Jp2BoxHeader {
+            return Ok(Jp2BoxHeader {
                 length: c.len() as u32,
                 ty,
                 header_length: 8,
@@ -63,20 +63,20 @@ impl Jp2BoxHeader {
         }
         if lbox == 1 {
             if c.len() < 16 {
-                return ReadHeader::Cut;
+                return Err(NoHeader::Cut);
             }
             let high = box_number::read_u32(c, 8);
             let low = box_number::read_u32(c, 12);
             if high != 0 {
-                return ReadHeader::HighWord;
+                return Err(NoHeader::HighWord);
             }
-            return ReadHeader::Header(Jp2BoxHeader {
+            return Ok(Jp2BoxHeader {
                 length: low,
                 ty,
                 header_length: 16,
             });
         }
-        ReadHeader::Header(Jp2BoxHeader {
+        Ok(Jp2BoxHeader {
             length: lbox,
             ty,
             header_length: 8,
@@ -84,14 +84,14 @@ impl Jp2BoxHeader {
     }
 
     // The header of a box inside jp2h: c is jp2h's content from the box's first byte to the last. A length of 0 has no meaning there.
-    pub fn read(c: &[u8]) -> ReadHeader
+    pub fn read(c: &[u8]) -> Result<Self, NoHeader>
         ensures { result ≡ child_header c.now }
     {
         if c.len() < 8 {
             return Jp2BoxHeader::from_stream(c);
         }
         if box_number::read_u32(c, 0) == 0 {
-            return ReadHeader::LengthZero;
+            return Err(NoHeader::LengthZero);
         }
         Jp2BoxHeader::from_stream(c)
     }
@@ -100,10 +100,7 @@ impl Jp2BoxHeader {
     pub fn write(self, d: &mut [u8], at: usize) -> bool
         ensures { (result ≡ fits_header d.old at) × (d.new ≡ with_header d.old at self) }
     {
-        if d.len() < 8 {
-            return false;
-        }
-        if d.len() - 8 < at {
+        if box_number::lies_outside(d.len(), at, 8) {
             return false;
         }
         box_number::opj_write_bytes(d, at, self.length, 4);
@@ -113,18 +110,14 @@ impl Jp2BoxHeader {
     pub fn ty_u32(self) -> u32
         ensures { result ≡ number_of self.ty }
     {
-        let ty = self.ty;
-        ty.to_u32()
+        u32::from(self.ty)
     }
 
     // The bytes after the header; none where the length is below the header's own.
     pub fn content_length(self) -> u32
         ensures { result ≡ self.length - self.header_length }
     {
-        if self.length < self.header_length {
-            return 0;
-        }
-        self.length - self.header_length
+        self.length.saturating_sub(self.header_length)
     }
 
     // Where the box after this one starts.

@@ -5,7 +5,7 @@ ghost use Rattle.std.specs.Prelude.{◌≡◌};
 ghost use Rattle.box_number.specs.Table.{holds};
 ghost use Rattle.box_kind.specs.Kind.{kind_of, number_of, is_file_header, is_image_header};
 
-#[derive(Clone, Copy)]
+#[derive(Clone, Copy, Debug, PartialEq, Eq)]
 pub enum Jp2BoxType {
     None,
     JPIP,
@@ -30,10 +30,11 @@ pub enum Jp2BoxType {
     Unknown(u32),
 }
 
-impl Jp2BoxType {
-    pub fn from_u32(value: u32) -> Self
-        ensures { result ≡ kind_of value }
-    {
+// Each number stands in both directions: a table would name each once more.
+impl From<u32> for Jp2BoxType {
+    ghost from_gives = { λ n k. k ≡ kind_of n };
+
+    fn from(value: u32) -> Self {
         match value {
             0x6a706970 => Jp2BoxType::JPIP,
             0x6a502020 => Jp2BoxType::JP,
@@ -57,12 +58,14 @@ impl Jp2BoxType {
             _ => Jp2BoxType::Unknown(value),
         }
     }
+}
 
-    // The number of a kind; None, which no file has, is 0.
-    pub fn to_u32(self) -> u32
-        ensures { result ≡ number_of self }
-    {
-        match self {
+// The number of a kind; None, which no file has, is 0.
+impl From<Jp2BoxType> for u32 {
+    ghost from_gives = { λ k n. n ≡ number_of k };
+
+    fn from(kind: Jp2BoxType) -> u32 {
+        match kind {
             Jp2BoxType::None => 0,
             Jp2BoxType::JPIP => 0x6a706970,
             Jp2BoxType::JP => 0x6a502020,
@@ -86,31 +89,28 @@ impl Jp2BoxType {
             Jp2BoxType::Unknown(value) => value,
         }
     }
+}
 
+impl Jp2BoxType {
     // A box of the file itself: jP, ftyp or jp2h.
     pub fn is_file_header(self) -> bool
         ensures { result ≡ holds (is_file_header self) }
     {
-        match self {
-            Jp2BoxType::JP => true,
-            Jp2BoxType::FTYP => true,
-            Jp2BoxType::JP2H => true,
-            _ => false,
-        }
+        matches!(self, Jp2BoxType::JP | Jp2BoxType::FTYP | Jp2BoxType::JP2H)
     }
 
     // A box that is read inside jp2h.
     pub fn is_image_header(self) -> bool
         ensures { result ≡ holds (is_image_header self) }
     {
-        match self {
-            Jp2BoxType::IHDR => true,
-            Jp2BoxType::COLR => true,
-            Jp2BoxType::BPCC => true,
-            Jp2BoxType::PCLR => true,
-            Jp2BoxType::CMAP => true,
-            Jp2BoxType::CDEF => true,
-            _ => false,
-        }
+        matches!(
+            self,
+            Jp2BoxType::IHDR
+                | Jp2BoxType::COLR
+                | Jp2BoxType::BPCC
+                | Jp2BoxType::PCLR
+                | Jp2BoxType::CMAP
+                | Jp2BoxType::CDEF
+        )
     }
 }

@@ -5,3 +5,4 @@ pub mod Pieces
 pub mod Bytes
 pub mod Indices
 pub mod Answers
+pub mod Found

@@ -8,6 +8,8 @@ use mathlib.Core.Path.{◌≡◌, refl, sym, ap, ◌∙◌}
 use mathlib.Core.List.{List, [], ◌∷◌, ◌++◌, append_assoc, append-nil}
 use lib.ListN.{length, take, drop, get_or, set, length-set, length-append, length-take, length-drop, take-append-drop}
 use lib.Seq.{paste, paste-suc, paste-zero, drop-drop, set_split, take-set-le, take_all, drop_at, length-take-le, take_at, take-append_seam, drop-append-add}
+use Rattle.std.proofs.lemmas.Slice.{put_mid-paste}
+use borrow.Rule.Slice.PartMut.{put_mid}
 use Rattle.box_number.specs.Number.{placed}
 
 module _ {A : Type 0} (d : List A) (at : ℕ) where
@@ -73,3 +75,8 @@ module _ {A : Type 0} (d : List A) (at : ℕ) (s : List A) where
 pub placed-after : {A : Type 0} (d xs ys : List A) → placed (xs ++ drop (length xs) d) (length xs) ys ≡ xs ++ ys ++ drop (length (xs ++ ys)) d
 unfolding placed
 placed-after d xs ys = rw (take-append_seam, drop-append-add, drop-drop, length-append)
+
+-- a slice of a list that was copied over: k is its end
+pub copied-over : {A : Type 0} (d : List A) (at k : ℕ) (xs : List A) {ys : List A} → ys ≡ xs → k ≡ length xs → put_mid at k d ys ≡ placed d at xs
+unfolding placed
+copied-over {A} d at k xs {ys} p q = put_mid-paste at k d ys xs (length xs) p (sym q) refl ∙ ap (λ (zs : List A). take at d ++ zs ++ drop (at + length xs) d) (take_all (length xs) xs (omega arith))

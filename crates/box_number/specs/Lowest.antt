@@ -1,5 +1,5 @@
 -- The lowest index that passes a test.
-use Rattle.std.specs.Prelude.{ℕ, zero, suc}
+use Rattle.std.specs.Prelude.{ℕ, zero, suc, Option, Some, None}
 use Rattle.box_number.specs.Table.{Test, ◌<?◌, otherwise, ◌⇒◌∣◌, table}
 
 -- the lowest index below n for which a test holds; n where it holds for none
@@ -10,3 +10,7 @@ lowest t (suc n) = table (lowest t n <? n ⇒ lowest t n ∣ t n ⇒ n ∣ other
 -- some index below n passes the test
 abbrev pub some : (ℕ → Test) → ℕ → Test
 some t n = lowest t n <? n
+
+-- the same index, or none
+abbrev pub found : (ℕ → Test) → ℕ → Option ℕ
+found t n = table (some t n ⇒ Some (lowest t n) ∣ otherwise None)

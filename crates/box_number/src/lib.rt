@@ -10,37 +10,26 @@ ghost use Rattle.box_number.specs.Number.{number, part, least, fits, written, li
 pub fn part(s: &[u8], start: usize, end: usize) -> &[u8]
     ensures { result.now ≡ part s.now start end }
 {
-    if end <= start {
-        return &s[0..0];
+    if end <= start || s.len() <= start {
+        return &[];
     }
-    if s.len() <= start {
-        return &s[0..0];
-    }
-    if s.len() < end {
-        return &s[start..];
-    }
-    &s[start..end]
+    &s[start..end.min(s.len())]
 }
 
 // Whether n elements from a place on do not lie in a list of the given length. Place plus n is not computed, since the sum may be too large for its type.
 pub fn lies_outside(len: usize, place: usize, n: usize) -> bool
     ensures { result ≡ holds (lies_outside len place n) }
 {
-    if len < n {
-        return true;
-    }
-    if len - n < place {
-        return true;
-    }
-    false
+    len < n || len - n < place
 }
 
 pub fn read_u8(s: &[u8], at: usize) -> u8
     ensures { result ≡ number s.now at 1 }
 {
-    if at < s.len() { s[at] } else { 0 }
+    s.get(at).copied().unwrap_or(0)
 }
 
+// By the weights of the bytes, as the definition has it; from_be_bytes has another definition, and would need a law more.
 pub fn read_u16(s: &[u8], at: usize) -> u16
     ensures { result ≡ number s.now at 2 }
 {
@@ -78,24 +67,17 @@ pub fn opj_read_bytes(s: &[u8], at: usize, nb: usize) -> u32
     }
 }
 
-// The low nb bytes of value, at most 4, to a place of d; whether they had room there.
+// The low nb bytes of value, at most 4, to a place of d; whether they had room there. The list and the place are two parameters, as in the crate; write_boxes has a struct for both.
 pub fn opj_write_bytes(d: &mut [u8], at: usize, value: u32, nb: usize) -> bool
     ensures { (result ≡ fits d.old at nb) × (d.new ≡ written d.old at nb value) }
 {
-    if 4 < nb {
+    if 4 < nb || lies_outside(d.len(), at, nb) {
         return false;
     }
-    if d.len() < nb {
-        return false;
-    }
-    if d.len() - nb < at {
-        return false;
-    }
-    let mut left = nb;
+    // a loop, since copy_from_slice of to_be_bytes has digits where the definition divides: tried, and not proved
     let mut v = value;
-    while 0 < left {
-        left = left - 1;
-        d[at + left] = (v % 256) as u8;
+    for k in (0..nb).rev() {
+        d[at + k] = (v % 256) as u8;
         v = v / 256;
     }
     true

@@ -3,7 +3,6 @@
 
 ghost use Rattle.std.specs.Prelude.{◌≡◌, length};
 ghost use Rattle.box_number.specs.Number.{placed};
-ghost use Rattle.read_record.specs.Record.{blank};
 ghost use Rattle.picture_rules.specs.Answers.{answered, records_after, samples_after};
 ghost use Rattle.picture_rules.specs.Handed.{settings};
 ghost use Rattle.picture_rules.specs.Whole.{handed, pictured};
@@ -12,7 +11,7 @@ ghost use Rattle.write_rules.specs.Request.{request};
 ghost use Rattle.export_rules.specs.Places.{reading_length, answer_length};
 ghost use Rattle.export_rules.specs.Room.{room};
 ghost use Rattle.export_rules.specs.Numbers.{numbers, refusal_number};
-ghost use Rattle.export_rules.specs.Answers.{of_finished, of_written, returned};
+ghost use Rattle.export_rules.specs.Answers.{of_told, returned};
 ghost use Rattle.export_rules.specs.FinishReading.{finish_reading};
 ghost use Rattle.export_rules.specs.TwoSteps.{ReadingOf};
 ghost use Rattle.export_rules.specs.Rule.{ToldRight};
@@ -25,47 +24,27 @@ mod numbers;
 mod readings;
 
 use answers::ANSWER_LENGTH;
-use numbers::{FILE_TYPE, READING_LENGTH};
+use box_refusal::Cause;
+use numbers::READING_LENGTH;
 use picture_rules::Settings;
+use write_rules::{Area, Request};
 
 // The number of a destination that is too short.
-const TOO_SHORT: u32 = 30;
+const TOO_SHORT: u32 = Cause::DestinationTooShort as u32;
 
 // Reads a file and gives the 44 numbers of its reading. Where reading has no room for them nothing is done.
 // The last clause is request R-1: where the file was broken off, the numbers agree with the whole file.
 pub fn cuzhantir_read(file: &[u8], reading: &mut [u64]) -> u32
-    ensures value { result ≡ room reading_length reading.old 30 (refusal_number (jp2.reading blank (jp2.read file.now)).answer) }
-    ensures reading_after { reading.new ≡ room reading_length reading.old reading.old (placed reading.old 0 (numbers (jp2.reading blank (jp2.read file.now)))) }
+    ensures value { result ≡ room reading_length reading.old 30 (refusal_number (jp2.read file.now)) }
+    ensures reading_after { reading.new ≡ room reading_length reading.old reading.old (placed reading.old 0 (numbers (jp2.read file.now))) }
     ensures cut_told { CutTold file.now reading.old reading.new }
 {
     if reading.len() < READING_LENGTH {
         return TOO_SHORT;
     }
     let r = read_file::read_file(file);
-    let answer = r.answer;
-    let j = r.jp2;
-    let image = j.image;
-    let colour = j.colour;
-    numbers::put_three(
-        reading,
-        0,
-        &numbers::answer_numbers(answer),
-        &numbers::image_numbers(image),
-        &numbers::colour_numbers(colour),
-    );
-    // the other parts are taken from the reading only now: until here they need no memory of their own
-    let m = r.jp2;
-    let filetype = m.filetype;
-    let lists = m.lists;
-    let status = m.status;
-    numbers::put_three(
-        reading,
-        FILE_TYPE,
-        &numbers::type_numbers(filetype),
-        &numbers::list_numbers(lists),
-        &numbers::status_numbers(status),
-    );
-    numbers::answer_number(answer)
+    reading[..READING_LENGTH].copy_from_slice(&numbers::of_reading(r));
+    numbers::refusal_number(r)
 }
 
 // Reads a file, finishes its picture and gives the 4 numbers of the answer. Where answer has no room for them nothing is done. The flag edition2 picks the edition of the camera rules: 0 is edition 1, any other number edition 2.
@@ -81,8 +60,8 @@ pub fn cuzhantir_picture(
     planes: &mut [i32],
     answer: &mut [u64],
 ) -> u32
-    ensures value { result ≡ room answer_length answer.old 30 (returned (of_finished (answered (pictured (handed file.now (settings ignore edition2) comps.now count samples.now records.old planes.old))))) }
-    ensures answer_after { answer.new ≡ room answer_length answer.old answer.old (placed answer.old 0 (of_finished (answered (pictured (handed file.now (settings ignore edition2) comps.now count samples.now records.old planes.old))))) }
+    ensures value { result ≡ room answer_length answer.old 30 (returned (of_told (answered (pictured (handed file.now (settings ignore edition2) comps.now count samples.now records.old planes.old))))) }
+    ensures answer_after { answer.new ≡ room answer_length answer.old answer.old (placed answer.old 0 (of_told (answered (pictured (handed file.now (settings ignore edition2) comps.now count samples.now records.old planes.old))))) }
     ensures records_after { records.new ≡ room answer_length answer.old records.old (records_after (pictured (handed file.now (settings ignore edition2) comps.now count samples.now records.old planes.old)) records.old) }
     ensures planes_after { planes.new ≡ room answer_length answer.old planes.old (samples_after (pictured (handed file.now (settings ignore edition2) comps.now count samples.now records.old planes.old)) planes.old) }
     ensures told_right { ToldRight (handed file.now (settings ignore edition2) comps.now count samples.now records.old planes.old) answer.old answer.new records.new planes.old planes.new }
@@ -90,12 +69,9 @@ pub fn cuzhantir_picture(
     if answer.len() < ANSWER_LENGTH {
         return TOO_SHORT;
     }
-    let s = Settings {
-        ignore: ignore,
-        edition2: edition2,
-    };
+    let s = Settings { ignore, edition2 };
     let r = picture_finish::read_picture(file, s, comps, count, samples, records, planes);
-    answers::give_finished(r, answer)
+    answers::give(r, answer)
 }
 
 // Finishes a picture whose file was read before: reading has the 44 numbers of that reading. It gives the 4 numbers of the answer; where answer has no room for them nothing is done.
@@ -112,8 +88,8 @@ pub fn cuzhantir_finish(
     planes: &mut [i32],
     answer: &mut [u64],
 ) -> u32
-    ensures value { result ≡ room answer_length answer.old 30 (returned (of_finished (answered (finish_reading (handed file.now (settings ignore edition2) comps.now count samples.now records.old planes.old) reading.now)))) }
-    ensures answer_after { answer.new ≡ room answer_length answer.old answer.old (placed answer.old 0 (of_finished (answered (finish_reading (handed file.now (settings ignore edition2) comps.now count samples.now records.old planes.old) reading.now)))) }
+    ensures value { result ≡ room answer_length answer.old 30 (returned (of_told (answered (finish_reading (handed file.now (settings ignore edition2) comps.now count samples.now records.old planes.old) reading.now)))) }
+    ensures answer_after { answer.new ≡ room answer_length answer.old answer.old (placed answer.old 0 (of_told (answered (finish_reading (handed file.now (settings ignore edition2) comps.now count samples.now records.old planes.old) reading.now)))) }
     ensures records_after { records.new ≡ room answer_length answer.old records.old (records_after (finish_reading (handed file.now (settings ignore edition2) comps.now count samples.now records.old planes.old) reading.now) records.old) }
     ensures planes_after { planes.new ≡ room answer_length answer.old planes.old (samples_after (finish_reading (handed file.now (settings ignore edition2) comps.now count samples.now records.old planes.old) reading.now) planes.old) }
     ensures told_right { ReadingOf file.now reading.now → ToldRight (handed file.now (settings ignore edition2) comps.now count samples.now records.old planes.old) answer.old answer.new records.new planes.old planes.new }
@@ -121,10 +97,9 @@ pub fn cuzhantir_finish(
     if answer.len() < ANSWER_LENGTH {
         return TOO_SHORT;
     }
-    let r = readings::finish_reading(
-        file, reading, ignore, edition2, comps, count, samples, records, planes,
-    );
-    answers::give_finished(r, answer)
+    let s = Settings { ignore, edition2 };
+    let r = readings::finish_reading(file, reading, s, comps, count, samples, records, planes);
+    answers::give(r, answer)
 }
 
 // Writes all boxes before a codestream of the given length and the header of its box, and gives the 4 numbers of the answer. Where answer has no room for them nothing is done.
@@ -141,13 +116,21 @@ pub fn cuzhantir_write(
     d: &mut [u8],
     answer: &mut [u64],
 ) -> u32
-    ensures value { result ≡ room answer_length answer.old 30 (returned (of_written (written.answered (write (request comps.now count x0 y0 x1 y1 space profile.now codestream (length d.old)))))) }
-    ensures answer_after { answer.new ≡ room answer_length answer.old answer.old (placed answer.old 0 (of_written (written.answered (write (request comps.now count x0 y0 x1 y1 space profile.now codestream (length d.old)))))) }
+    ensures value { result ≡ room answer_length answer.old 30 (returned (of_told (written.answered (write (request comps.now count x0 y0 x1 y1 space profile.now codestream (length d.old)))))) }
+    ensures answer_after { answer.new ≡ room answer_length answer.old answer.old (placed answer.old 0 (of_told (written.answered (write (request comps.now count x0 y0 x1 y1 space profile.now codestream (length d.old)))))) }
     ensures d_after { d.new ≡ room answer_length answer.old d.old (destination d.old (write (request comps.now count x0 y0 x1 y1 space profile.now codestream (length d.old)))) }
 {
     if answer.len() < ANSWER_LENGTH {
         return TOO_SHORT;
     }
-    let r = write_boxes::write_boxes(comps, count, x0, y0, x1, y1, space, profile, codestream, d);
-    answers::give_written(r, answer)
+    let r = Request {
+        comps,
+        count,
+        area: Area { x0, y0, x1, y1 },
+        space,
+        profile,
+        codestream,
+    };
+    let r = write_boxes::write_boxes(&r, d);
+    answers::give(r, answer)
 }

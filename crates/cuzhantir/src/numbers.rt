@@ -1,113 +1,59 @@
-// The parts of the 44 numbers of a reading, and putting them to a list.
-ghost use Rattle.std.specs.Prelude.{◌≡◌, ◌+◌, ◌≤◌, ◌++◌, length};
-ghost use Rattle.box_number.specs.Number.{placed};
-ghost use Rattle.export_rules.specs.Numbers.{of_answer, of_image, of_colour, of_file_type, of_lists, of_status, refusal_number};
+// The 44 numbers of a reading.
+ghost use Rattle.std.specs.Prelude.{◌≡◌, ◌∷◌, ◌++◌};
+ghost use Rattle.read_rules.specs.File.{walked};
+ghost use Rattle.export_rules.specs.Numbers.{of_image, of_colour, last_numbers, numbers, refusal_number};
 
-use read_record::{Colour, FileType, Image, Lists, Status};
-use read_rules::FileAnswer;
+use box_refusal::Refusal;
+use read_record::Jp2;
+use read_rules::{FileEnd, Reading};
 
 // How many numbers a reading has.
 pub const READING_LENGTH: usize = 44;
 
-// The position of the first number of the file type, behind the answer, the image and the colour.
-pub const FILE_TYPE: usize = 25;
-
-// The kinds of a reading.
+// The kinds of a reading: numbers, as C has them.
 const CODESTREAM: u64 = 0;
 
 const ENDED: u64 = 1;
 
 pub const REFUSED: u64 = 2;
 
-// Puts numbers to a place of a list that has room for them.
-pub fn put(d: &mut [u64], at: usize, xs: &[u64])
-    requires { at + length xs.now ≤ length d.old }
-    ensures { d.new ≡ placed d.old at xs.now }
+// The kind, what goes with it, and the numbers of the record.
+fn with_record(kind: u64, value: u64, place: u64, j: Jp2) -> [u64; READING_LENGTH]
+    ensures { result ≡ kind ∷ value ∷ place ∷ (of_image j.image ++ of_colour j.colour ++ last_numbers j) }
 {
-    let n = xs.len();
-    let mut k = 0;
-    while k < n {
-        d[at + k] = xs[k];
-        k += 1;
-    }
-}
-
-// Puts three parts, one behind the other.
-pub fn put_three(d: &mut [u64], at: usize, xs: &[u64], ys: &[u64], zs: &[u64])
-    requires { at + (length xs.now + length ys.now + length zs.now) ≤ length d.old }
-    ensures { d.new ≡ placed d.old at (xs.now ++ ys.now ++ zs.now) }
-{
-    let second = at + xs.len();
-    let third = second + ys.len();
-    put(d, at, xs);
-    put(d, second, ys);
-    put(d, third, zs);
-}
-
-fn wide(x: u32) -> u64
-    ensures { result ≡ x }
-{
-    x as u64
-}
-
-// The kind with the codestream's offset, or with the number and the place of a refusal.
-pub fn answer_numbers(a: FileAnswer) -> [u64; 3]
-    ensures { result ≡ of_answer a }
-{
-    match a {
-        FileAnswer::Codestream(offset) => [CODESTREAM, offset as u64, 0],
-        FileAnswer::Ended => [ENDED, 0, 0],
-        FileAnswer::Refused(n, p) => [REFUSED, n as u64, p as u64],
-    }
-}
-
-pub fn image_numbers(i: Image) -> [u64; 7]
-    ensures { result ≡ of_image i }
-{
-    [
-        wide(i.h),
-        wide(i.w),
-        wide(i.numcomps),
-        wide(i.bpc),
-        wide(i.c),
-        wide(i.unkc),
-        wide(i.ipr),
-    ]
-}
-
-pub fn colour_numbers(c: Colour) -> [u64; 15]
-    ensures { result ≡ of_colour c }
-{
+    let i = j.image;
+    let c = j.colour;
     let lab = c.lab.numbers;
+    let l = j.lists;
+    let s = j.status;
     [
-        wide(c.meth),
-        wide(c.precedence),
-        wide(c.approx),
-        wide(c.enumcs),
-        wide(lab[0]),
-        wide(lab[1]),
-        wide(lab[2]),
-        wide(lab[3]),
-        wide(lab[4]),
-        wide(lab[5]),
-        wide(lab[6]),
-        wide(lab[7]),
-        wide(lab[8]),
-        wide(c.lab.count),
-        wide(c.held),
-    ]
-}
-
-pub fn type_numbers(t: FileType) -> [u64; 2]
-    ensures { result ≡ of_file_type t }
-{
-    [wide(t.brand), wide(t.minversion)]
-}
-
-pub fn list_numbers(l: Lists) -> [u64; 13]
-    ensures { result ≡ of_lists l }
-{
-    [
+        kind,
+        value,
+        place,
+        u64::from(i.h),
+        u64::from(i.w),
+        u64::from(i.numcomps),
+        u64::from(i.bpc),
+        u64::from(i.c),
+        u64::from(i.unkc),
+        u64::from(i.ipr),
+        u64::from(c.meth),
+        u64::from(c.precedence),
+        u64::from(c.approx),
+        u64::from(c.enumcs),
+        u64::from(lab[0]),
+        u64::from(lab[1]),
+        u64::from(lab[2]),
+        u64::from(lab[3]),
+        u64::from(lab[4]),
+        u64::from(lab[5]),
+        u64::from(lab[6]),
+        u64::from(lab[7]),
+        u64::from(lab[8]),
+        u64::from(c.lab.count),
+        u64::from(c.held),
+        u64::from(j.filetype.brand),
+        u64::from(j.filetype.minversion),
         l.cl.place as u64,
         l.cl.count as u64,
         l.bpcc.place as u64,
@@ -115,33 +61,43 @@ pub fn list_numbers(l: Lists) -> [u64; 13]
         l.icc.place as u64,
         l.icc.count as u64,
         l.pclr.place as u64,
-        wide(l.pclr.entries),
-        wide(l.pclr.columns),
+        u64::from(l.pclr.entries),
+        u64::from(l.pclr.columns),
         l.cmap.place as u64,
         l.cmap.count as u64,
         l.cdef.place as u64,
         l.cdef.count as u64,
+        u64::from(s.state),
+        u64::from(s.imgstate),
+        u64::from(s.hasjp2h),
+        u64::from(s.hasihdr),
     ]
 }
 
-pub fn status_numbers(s: Status) -> [u64; 4]
-    ensures { result ≡ of_status s }
+// All numbers. A refusal has the record before any box.
+pub fn of_reading(r: Result<Reading, Refusal<u32>>) -> [u64; READING_LENGTH]
+    ensures { result ≡ numbers (walked r) }
 {
-    [
-        wide(s.state),
-        wide(s.imgstate),
-        wide(s.hasjp2h),
-        wide(s.hasihdr),
-    ]
+    match r {
+        Ok(r) => match r.end {
+            FileEnd::Codestream(offset) => with_record(CODESTREAM, u64::from(offset), 0, r.jp2),
+            FileEnd::Ended => with_record(ENDED, 0, 0, r.jp2),
+        },
+        Err(e) => with_record(
+            REFUSED,
+            u64::from(e.cause.number()),
+            u64::from(e.place),
+            read_record::opj_jp2_create(),
+        ),
+    }
 }
 
 // The number of a refusal, 0 for any other answer.
-pub fn answer_number(a: FileAnswer) -> u32
-    ensures { result ≡ refusal_number a }
+pub fn refusal_number(r: Result<Reading, Refusal<u32>>) -> u32
+    ensures { result ≡ refusal_number (walked r) }
 {
-    match a {
-        FileAnswer::Codestream(_) => 0,
-        FileAnswer::Ended => 0,
-        FileAnswer::Refused(n, _) => n,
+    match r {
+        Ok(_) => 0,
+        Err(e) => e.cause.number(),
     }
 }

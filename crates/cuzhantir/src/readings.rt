@@ -1,14 +1,15 @@
 // Finishing a picture whose file was read before: the caller gives the reading as numbers and is not trusted.
 ghost use Rattle.std.specs.Prelude.{◌≡◌};
 ghost use Rattle.box_number.specs.Table.{holds};
-ghost use Rattle.picture_rules.specs.Handed.{settings};
+ghost use Rattle.box_refusal.specs.Told.{told};
 ghost use Rattle.picture_rules.specs.Whole.{handed};
 ghost use Rattle.export_rules.specs.FinishReading.{misnumbered, no_reading, record_of};
 ghost use Rattle.export_rules.specs.TwoSteps.{ReadingFinished};
 ghost use Rattle.cuzhantir.specs.Private.Taken.{Taken};
 
 use crate::numbers::{READING_LENGTH, REFUSED};
-use picture_rules::{Finished, Settings};
+use box_refusal::{Cause, Refusal};
+use picture_rules::Settings;
 use read_record::{Jp2, Palette, Span};
 
 // Positions in a reading.
@@ -33,7 +34,7 @@ const CDEF_PLACE: usize = 38;
 const CDEF_COUNT: usize = 39;
 
 // The last of document 01's numbers by which reading refuses.
-const LAST_OF_READING: u64 = 24;
+const LAST_OF_READING: u64 = Cause::NoDefinitions as u64;
 
 // The largest number of 32 bits.
 const LARGEST: u64 = 4294967295;
@@ -42,38 +43,18 @@ const LARGEST: u64 = 4294967295;
 fn is_misnumbered(kind: u64, number: u64) -> bool
     ensures { result ≡ holds (misnumbered kind number) }
 {
-    if kind != REFUSED {
-        return false;
-    }
-    if number == 0 {
-        return true;
-    }
-    if LAST_OF_READING < number {
-        return true;
-    }
-    false
+    kind == REFUSED && (number == 0 || LAST_OF_READING < number)
 }
 
 // Whether a list is too short for a reading, or has numbers that no reading has: number 29.
 fn no_reading(xs: &[u64]) -> bool
     ensures { result ≡ holds (no_reading xs.now) }
 {
-    if xs.len() < READING_LENGTH {
-        return true;
-    }
-    if REFUSED < xs[KIND] {
-        return true;
-    }
-    if is_misnumbered(xs[KIND], xs[VALUE]) {
-        return true;
-    }
-    if LARGEST < xs[PCLR_ENTRIES] {
-        return true;
-    }
-    if LARGEST < xs[PCLR_COLUMNS] {
-        return true;
-    }
-    false
+    xs.len() < READING_LENGTH
+        || REFUSED < xs[KIND]
+        || is_misnumbered(xs[KIND], xs[VALUE])
+        || LARGEST < xs[PCLR_ENTRIES]
+        || LARGEST < xs[PCLR_COLUMNS]
 }
 
 // The record of a reading, as far as finishing looks at it: its palette, mappings and definitions.
@@ -82,24 +63,19 @@ fn record_of(xs: &[u64]) -> Jp2
     ensures { result ≡ record_of xs.now }
 {
     let mut m = read_record::opj_jp2_create();
-    let mut lists = m.lists;
-    let pclr = Palette {
+    m.lists.pclr = Palette {
         place: xs[PCLR_PLACE] as usize,
         entries: xs[PCLR_ENTRIES] as u32,
         columns: xs[PCLR_COLUMNS] as u32,
     };
-    let cmap = Span {
+    m.lists.cmap = Span {
         place: xs[CMAP_PLACE] as usize,
         count: xs[CMAP_COUNT] as usize,
     };
-    let cdef = Span {
+    m.lists.cdef = Span {
         place: xs[CDEF_PLACE] as usize,
         count: xs[CDEF_COUNT] as usize,
     };
-    lists.pclr = pclr;
-    lists.cmap = cmap;
-    lists.cdef = cdef;
-    m.lists = lists;
     m
 }
 
@@ -107,27 +83,28 @@ fn record_of(xs: &[u64]) -> Jp2
 pub fn finish_reading(
     file: &[u8],
     reading: &[u64],
-    ignore: u32,
-    edition2: u32,
+    s: Settings,
     comps: &[u32],
     count: u32,
     samples: &[i32],
     records: &mut [u32],
     planes: &mut [i32],
-) -> Finished
-    ensures { ReadingFinished (handed file.now (settings ignore edition2) comps.now count samples.now records.old planes.old) reading.now result records.old records.new planes.old planes.new }
+) -> Result<u32, Refusal<u64>>
+    ensures { ReadingFinished (handed file.now s comps.now count samples.now records.old planes.old) reading.now (told result) records.old records.new planes.old planes.new }
 {
     if no_reading(reading) {
-        return Finished::Refused(29, 0);
+        return Err(Refusal {
+            cause: Cause::OutsideItsList,
+            place: 0,
+        });
     }
     if reading[KIND] == REFUSED {
-        return Finished::Refused(reading[VALUE] as u32, reading[PLACE]);
+        return Err(Refusal {
+            cause: Cause::try_from(reading[VALUE]).unwrap(),
+            place: reading[PLACE],
+        });
     }
     let m = record_of(reading);
-    let s = Settings {
-        ignore: ignore,
-        edition2: edition2,
-    };
     picture_finish::opj_jp2_apply_color_postprocessing(
         file, m, s, comps, count, samples, records, planes,
     )

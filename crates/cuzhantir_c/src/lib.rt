@@ -3,7 +3,6 @@
 
 ghost use Rattle.std.specs.Prelude.{◌≡◌, length};
 ghost use Rattle.box_number.specs.Number.{placed};
-ghost use Rattle.read_record.specs.Record.{blank};
 ghost use Rattle.picture_rules.specs.Answers.{answered, records_after, samples_after};
 ghost use Rattle.picture_rules.specs.Handed.{settings};
 ghost use Rattle.picture_rules.specs.Whole.{handed, pictured};
@@ -12,7 +11,7 @@ ghost use Rattle.write_rules.specs.Request.{request};
 ghost use Rattle.export_rules.specs.Places.{reading_length, answer_length};
 ghost use Rattle.export_rules.specs.Room.{room};
 ghost use Rattle.export_rules.specs.Numbers.{numbers, refusal_number};
-ghost use Rattle.export_rules.specs.Answers.{of_finished, of_written, returned};
+ghost use Rattle.export_rules.specs.Answers.{of_told, returned};
 ghost use Rattle.export_rules.specs.FinishReading.{finish_reading};
 ghost use Rattle.export_rules.specs.TwoSteps.{ReadingOf};
 ghost use Rattle.export_rules.specs.Rule.{ToldRight};
@@ -24,8 +23,8 @@ ghost use Rattle.write_boxes.specs.Answers as written;
 // The last clause is request R-1: where the file was broken off, the numbers agree with the whole file.
 #[unsafe(no_mangle)]
 pub extern "C" fn cuzhantir_read(file: &[u8], reading: &mut [u64]) -> u32
-    ensures value { result ≡ room reading_length reading.old 30 (refusal_number (jp2.reading blank (jp2.read file.now)).answer) }
-    ensures reading_after { reading.new ≡ room reading_length reading.old reading.old (placed reading.old 0 (numbers (jp2.reading blank (jp2.read file.now)))) }
+    ensures value { result ≡ room reading_length reading.old 30 (refusal_number (jp2.read file.now)) }
+    ensures reading_after { reading.new ≡ room reading_length reading.old reading.old (placed reading.old 0 (numbers (jp2.read file.now))) }
     ensures cut_told { CutTold file.now reading.old reading.new }
 {
     cuzhantir::cuzhantir_read(file, reading)
@@ -45,8 +44,8 @@ pub extern "C" fn cuzhantir_picture(
     planes: &mut [i32],
     answer: &mut [u64],
 ) -> u32
-    ensures value { result ≡ room answer_length answer.old 30 (returned (of_finished (answered (pictured (handed file.now (settings ignore edition2) comps.now count samples.now records.old planes.old))))) }
-    ensures answer_after { answer.new ≡ room answer_length answer.old answer.old (placed answer.old 0 (of_finished (answered (pictured (handed file.now (settings ignore edition2) comps.now count samples.now records.old planes.old))))) }
+    ensures value { result ≡ room answer_length answer.old 30 (returned (of_told (answered (pictured (handed file.now (settings ignore edition2) comps.now count samples.now records.old planes.old))))) }
+    ensures answer_after { answer.new ≡ room answer_length answer.old answer.old (placed answer.old 0 (of_told (answered (pictured (handed file.now (settings ignore edition2) comps.now count samples.now records.old planes.old))))) }
     ensures records_after { records.new ≡ room answer_length answer.old records.old (records_after (pictured (handed file.now (settings ignore edition2) comps.now count samples.now records.old planes.old)) records.old) }
     ensures planes_after { planes.new ≡ room answer_length answer.old planes.old (samples_after (pictured (handed file.now (settings ignore edition2) comps.now count samples.now records.old planes.old)) planes.old) }
     ensures told_right { ToldRight (handed file.now (settings ignore edition2) comps.now count samples.now records.old planes.old) answer.old answer.new records.new planes.old planes.new }
@@ -71,8 +70,8 @@ pub extern "C" fn cuzhantir_finish(
     planes: &mut [i32],
     answer: &mut [u64],
 ) -> u32
-    ensures value { result ≡ room answer_length answer.old 30 (returned (of_finished (answered (finish_reading (handed file.now (settings ignore edition2) comps.now count samples.now records.old planes.old) reading.now)))) }
-    ensures answer_after { answer.new ≡ room answer_length answer.old answer.old (placed answer.old 0 (of_finished (answered (finish_reading (handed file.now (settings ignore edition2) comps.now count samples.now records.old planes.old) reading.now)))) }
+    ensures value { result ≡ room answer_length answer.old 30 (returned (of_told (answered (finish_reading (handed file.now (settings ignore edition2) comps.now count samples.now records.old planes.old) reading.now)))) }
+    ensures answer_after { answer.new ≡ room answer_length answer.old answer.old (placed answer.old 0 (of_told (answered (finish_reading (handed file.now (settings ignore edition2) comps.now count samples.now records.old planes.old) reading.now)))) }
     ensures records_after { records.new ≡ room answer_length answer.old records.old (records_after (finish_reading (handed file.now (settings ignore edition2) comps.now count samples.now records.old planes.old) reading.now) records.old) }
     ensures planes_after { planes.new ≡ room answer_length answer.old planes.old (samples_after (finish_reading (handed file.now (settings ignore edition2) comps.now count samples.now records.old planes.old) reading.now) planes.old) }
     ensures told_right { ReadingOf file.now reading.now → ToldRight (handed file.now (settings ignore edition2) comps.now count samples.now records.old planes.old) answer.old answer.new records.new planes.old planes.new }
@@ -97,8 +96,8 @@ pub extern "C" fn cuzhantir_write(
     d: &mut [u8],
     answer: &mut [u64],
 ) -> u32
-    ensures value { result ≡ room answer_length answer.old 30 (returned (of_written (written.answered (write (request comps.now count x0 y0 x1 y1 space profile.now codestream (length d.old)))))) }
-    ensures answer_after { answer.new ≡ room answer_length answer.old answer.old (placed answer.old 0 (of_written (written.answered (write (request comps.now count x0 y0 x1 y1 space profile.now codestream (length d.old)))))) }
+    ensures value { result ≡ room answer_length answer.old 30 (returned (of_told (written.answered (write (request comps.now count x0 y0 x1 y1 space profile.now codestream (length d.old)))))) }
+    ensures answer_after { answer.new ≡ room answer_length answer.old answer.old (placed answer.old 0 (of_told (written.answered (write (request comps.now count x0 y0 x1 y1 space profile.now codestream (length d.old)))))) }
     ensures d_after { d.new ≡ room answer_length answer.old d.old (destination d.old (write (request comps.now count x0 y0 x1 y1 space profile.now codestream (length d.old)))) }
 {
     cuzhantir::cuzhantir_write(

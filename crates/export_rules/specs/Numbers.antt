@@ -6,22 +6,21 @@ use Rattle.read_record.specs.declared.FileType.{FileType}
 use Rattle.read_record.specs.declared.Lists.{Lists}
 use Rattle.read_record.specs.declared.Status.{Status}
 use Rattle.read_record.specs.declared.Jp2.{Jp2}
-use Rattle.read_rules.specs.declared.FileAnswer.{FileAnswer}
-use Rattle.read_rules.specs.declared.FileAnswer.TheVariants.{Codestream, Ended, Refused}
-use Rattle.read_rules.specs.declared.Reading.{Reading}
+use Rattle.read_record.specs.Record.{blank}
+use Rattle.read_rules.specs.File.{Walked, codestream, ended, file_refused, after}
 use Rattle.export_rules.specs.Places.{kind, value, place, pclr_place, pclr_entries, pclr_columns, cmap_place, cmap_count, cdef_place, cdef_count, state, reading_length, reading_codestream, reading_ended, reading_refused}
 
 -- 0 to 2: 0 and the codestream's offset; 1 for "ended"; 2, document 01's number and the place
-abbrev pub of_answer : FileAnswer → List ℕ
-of_answer (Codestream offset) = reading_codestream ∷ offset ∷ 0 ∷ []
-of_answer Ended = reading_ended ∷ 0 ∷ 0 ∷ []
-of_answer (Refused number at) = reading_refused ∷ number ∷ at ∷ []
+abbrev pub of_answer : Walked → List ℕ
+of_answer (codestream offset k) = reading_codestream ∷ offset ∷ 0 ∷ []
+of_answer (ended k) = reading_ended ∷ 0 ∷ 0 ∷ []
+of_answer (file_refused number at) = reading_refused ∷ number ∷ at ∷ []
 
 -- the number of a refusal, 0 for any other answer
-abbrev pub refusal_number : FileAnswer → ℕ
-refusal_number (Codestream offset) = 0
-refusal_number Ended = 0
-refusal_number (Refused n at) = n
+abbrev pub refusal_number : Walked → ℕ
+refusal_number (codestream offset k) = 0
+refusal_number (ended k) = 0
+refusal_number (file_refused number at) = number
 
 -- 3 to 9
 abbrev pub of_image : Image → List ℕ
@@ -73,23 +72,23 @@ of_lists l =
 abbrev pub of_status : Status → List ℕ
 of_status s = s.state ∷ s.imgstate ∷ s.hasjp2h ∷ s.hasihdr ∷ []
 
--- 0 to 24
-abbrev pub first_numbers : Reading → List ℕ
-first_numbers r = of_answer r.answer ++ of_image r.jp2.image ++ of_colour r.jp2.colour
+-- 0 to 24; a refusal has the record before any box
+abbrev pub first_numbers : Walked → List ℕ
+first_numbers w = of_answer w ++ of_image (after blank w).image ++ of_colour (after blank w).colour
 
 -- 25 to 43
 abbrev pub last_numbers : Jp2 → List ℕ
 last_numbers j = of_file_type j.filetype ++ of_lists j.lists ++ of_status j.status
 
 -- all 44
-abbrev pub numbers : Reading → List ℕ
-numbers r = first_numbers r ++ last_numbers r.jp2
+abbrev pub numbers : Walked → List ℕ
+numbers w = first_numbers w ++ last_numbers (after blank w)
 
 -- the positions in Places.antt are those of these numbers
-pub record PlacesRight (r : Reading) : Type 0 where
-  pub answer : (get_or (numbers r) kind 0 ∷ get_or (numbers r) value 0 ∷ get_or (numbers r) place 0 ∷ []) ≡ of_answer r.answer
-  pub pclr : (get_or (numbers r) pclr_place 0 ≡ r.jp2.lists.pclr.place) × ((get_or (numbers r) pclr_entries 0 ≡ r.jp2.lists.pclr.entries) × (get_or (numbers r) pclr_columns 0 ≡ r.jp2.lists.pclr.columns))
-  pub cmap : (get_or (numbers r) cmap_place 0 ≡ r.jp2.lists.cmap.place) × (get_or (numbers r) cmap_count 0 ≡ r.jp2.lists.cmap.count)
-  pub cdef : (get_or (numbers r) cdef_place 0 ≡ r.jp2.lists.cdef.place) × (get_or (numbers r) cdef_count 0 ≡ r.jp2.lists.cdef.count)
-  pub status : get_or (numbers r) state 0 ≡ r.jp2.status.state
-  pub long : length (numbers r) ≡ reading_length
+pub record PlacesRight (w : Walked) : Type 0 where
+  pub answer : (get_or (numbers w) kind 0 ∷ get_or (numbers w) value 0 ∷ get_or (numbers w) place 0 ∷ []) ≡ of_answer w
+  pub pclr : (get_or (numbers w) pclr_place 0 ≡ (after blank w).lists.pclr.place) × ((get_or (numbers w) pclr_entries 0 ≡ (after blank w).lists.pclr.entries) × (get_or (numbers w) pclr_columns 0 ≡ (after blank w).lists.pclr.columns))
+  pub cmap : (get_or (numbers w) cmap_place 0 ≡ (after blank w).lists.cmap.place) × (get_or (numbers w) cmap_count 0 ≡ (after blank w).lists.cmap.count)
+  pub cdef : (get_or (numbers w) cdef_place 0 ≡ (after blank w).lists.cdef.place) × (get_or (numbers w) cdef_count 0 ≡ (after blank w).lists.cdef.count)
+  pub status : get_or (numbers w) state 0 ≡ (after blank w).status.state
+  pub long : length (numbers w) ≡ reading_length

@@ -12,16 +12,16 @@ use Rattle.jp2info.specs.Quote.{together, first_character, quotes, quoted}
 use Rattle.text.proofs.Puts.{Puts, Left, start, turn, done}
 use Rattle.jp2info.proofs.Utf8s.{character-fits}
 
-pub together-some : (s : List ℕ) → 0 < together s
+pub together_some : (s : List ℕ) → 0 < together s
 unfolding together
-together-some s = each (λ (n : ℕ). 0 < n) _ ((λ t. omega arith), λ f. omega arith)
+together_some s = each (λ (n : ℕ). 0 < n) _ ((λ t. omega arith), λ f. omega arith)
 
-pub together-fits : (s : List ℕ) → 0 < length s → together s ≤ length s
+pub together_fits : (s : List ℕ) → 0 < length s → together s ≤ length s
 unfolding together
-together-fits s h = each (λ (n : ℕ). n ≤ length s) _ ((λ t. character-fits s), λ f. omega arith)
+together_fits s h = each (λ (n : ℕ). n ≤ length s) _ ((λ t. character-fits s), λ f. omega arith)
 
-pub rest-less : (s : List ℕ) (n : ℕ) → n ≡ together s → 0 < length s → length (take (length s - n) (drop n s)) < length s
-rest-less s n t h = let some = together-some s in rw (rest-is s n, length-drop) (omega arith)
+pub rest_less : (s : List ℕ) (n : ℕ) → n ≡ together s → 0 < length s → length (take (length s - n) (drop n s)) < length s
+rest_less s n t h = let some = together_some s in rw (rest-is s n, length-drop) (omega arith)
 
 quotes-turn : (fuel : ℕ) (json : Bool) (s : List ℕ) → 0 < length s → quotes (suc fuel) json s ≡ first_character json (together s) s ++ quotes fuel json (drop (together s) s)
 unfolding quotes
@@ -50,7 +50,7 @@ module _ {d₀ : List ℕ} {at : ℕ} {whole : List ℕ} {json : Bool} {d : List
       go : (fuel : ℕ) → length rest ≤ fuel → Left d₀ at whole d k (quotes fuel json rest) → Going d₀ at whole json e m (drop (together rest) rest)
       go zero l q = absurd (omega arith)
       go (suc fuel) l q =
-          let some = together-some rest in
+          let some = together_some rest in
           record { fuel = fuel; enough = rw length-drop (omega arith); left = turn _ q (quotes-turn fuel json rest h) (rw t at p) }
 
   pub going_end : length rest ≡ 0 → Puts d₀ at whole d k

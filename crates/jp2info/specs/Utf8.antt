@@ -16,10 +16,10 @@ pair s low high low2 high2 = within s 0 low high and within s 1 low2 high2
 abbrev pub UTF8-2 : List ℕ → Test
 UTF8-2 s = pair s 0xc2 0xdf 0x80 0xbf
 
-unfoldable pub UTF8-3 : List ℕ → Test
+abbrev pub UTF8-3 : List ℕ → Test
 UTF8-3 s = tail s 2 and (pair s 0xe0 0xe0 0xa0 0xbf or pair s 0xe1 0xec 0x80 0xbf or pair s 0xed 0xed 0x80 0x9f or pair s 0xee 0xef 0x80 0xbf)
 
-unfoldable pub UTF8-4 : List ℕ → Test
+abbrev pub UTF8-4 : List ℕ → Test
 UTF8-4 s = tail s 2 and tail s 3 and (pair s 0xf0 0xf0 0x90 0xbf or pair s 0xf1 0xf3 0x80 0xbf or pair s 0xf4 0xf4 0x80 0x8f)
 
 -- the bytes of the character that a text starts with, 0 where it starts with none

@@ -1,119 +1,90 @@
 // What a list of a record has: entries of CL, depths of BPCC or of a palette's columns, mappings of cmap, definitions of cdef.
-use crate::say;
-use crate::say::{field, note, pair};
-
-#[derive(Clone, Copy)]
-pub enum Item {
-    Code,
-    Component,
-    Column,
-    Mapping,
-    Definition,
-}
-
-// Item i of a list, whose bytes c begins with.
-pub(crate) fn show(rt: &impl Print, json: bool, item: Item, i: usize, c: &[u8]) {
-    comma(rt, json, i);
-    match item {
-        Item::Code => code(rt, json, c),
-        Item::Component => component(rt, json, i, c),
-        Item::Column => column(rt, json, i, c),
-        Item::Mapping => mapping(rt, json, i, c),
-        Item::Definition => definition(rt, json, c),
-    }
-}
-
-// The comma before item i of a list of JSON.
-pub(crate) fn comma(rt: &impl Print, json: bool, i: usize) {
-    if i != 0 {
-        say::text(rt, json, b"|,");
-    }
-}
-
-// The four letters of a brand.
-pub(crate) fn code(rt: &impl Print, json: bool, c: &[u8]) {
-    say::text(rt, json, b" '|\"");
-    say::quoted(rt, json, box_number::part(c, 0, 4));
-    say::text(rt, json, b"'|\"");
-}
-
-fn component(rt: &impl Print, json: bool, i: usize, c: &[u8]) {
-    let b = box_number::read_u8(c, 0) as usize;
-    field(rt, json, b"\n    component #: |", i);
-    field(rt, json, b"# (|#", b);
-    depth(rt, json, b);
-}
-
-fn column(rt: &impl Print, json: bool, i: usize, c: &[u8]) {
-    let b = box_number::read_u8(c, 0) as u32;
-    field(rt, json, b"\n    B #: |{\"B\":", i);
-    pair(rt, json, b"# (# bits, |#,\"bits\":#", b, b % 128 + 1);
-    field(rt, json, b"|,\"sign\":#}", (b / 128) as usize);
-    sign(rt, json, (b / 128) as usize);
-}
+// Each is shown by its place in the list and its bytes.
+use crate::say::Report;
+use std::{fmt, io};
 
 // What a byte of BPC or BPCC says, for people.
-pub(crate) fn depth(rt: &impl Print, json: bool, b: usize) {
-    field(rt, json, b"# bits, |", b % 128 + 1);
-    sign(rt, json, b / 128);
-}
+#[derive(Clone, Copy)]
+pub(crate) struct Depth(pub(crate) u32);
 
-fn sign(rt: &impl Print, json: bool, sign: usize) {
-    note(rt, json, sign, b"unsigned)\nsigned)\n");
-}
-
-fn mapping(rt: &impl Print, json: bool, i: usize, c: &[u8]) {
-    let mtyp = box_number::read_u8(c, 2);
-    field(rt, json, b"\n    channel #: |{", i);
-    pair(
-        rt,
-        json,
-        b"CMP #, MTYP # (|\"CMP\":#,\"MTYP\":#",
-        box_number::read_u16(c, 0) as u32,
-        mtyp as u32,
-    );
-    note(rt, json, mtyp as usize, b"direct\npalette\n");
-    field(
-        rt,
-        json,
-        b"), PCOL #|,\"PCOL\":#}",
-        box_number::read_u8(c, 3) as usize,
-    );
-}
-
-fn definition(rt: &impl Print, json: bool, c: &[u8]) {
-    let typ = box_number::read_u16(c, 2);
-    let asoc = box_number::read_u16(c, 4);
-    pair(
-        rt,
-        json,
-        b"\n    Cn #, Typ # (|{\"Cn\":#,\"Typ\":#",
-        box_number::read_u16(c, 0) as u32,
-        typ as u32,
-    );
-    channel(rt, json, typ as usize);
-    field(rt, json, b"), Asoc # (|,\"Asoc\":#}", asoc as usize);
-    association(rt, json, asoc as usize);
-}
-
-// Typ.
-fn channel(rt: &impl Print, json: bool, typ: usize) {
-    if typ == 65535 {
-        say::text(rt, json, b"unspecified|");
-        return;
+impl fmt::Display for Depth {
+    fn fmt<W: fmt::Write>(&self, f: &mut fmt::Formatter<W>) -> fmt::Result {
+        let bits = self.0 % 128 + 1;
+        let sign = if self.0 < 128 { "unsigned" } else { "signed" };
+        write!(f, "{bits} bits, {sign}")
     }
-    note(rt, json, typ, b"colour\nopacity\npremultiplied opacity\n");
 }
 
-// Asoc.
-fn association(rt: &impl Print, json: bool, asoc: usize) {
-    if asoc == 0 {
-        say::text(rt, json, b"whole image)|");
-        return;
+// Asoc, for people.
+#[derive(Clone, Copy)]
+struct Association(u16);
+
+impl fmt::Display for Association {
+    fn fmt<W: fmt::Write>(&self, f: &mut fmt::Formatter<W>) -> fmt::Result {
+        let asoc = self.0;
+        match asoc {
+            0 => f.write_str("whole image"),
+            65535 => f.write_str("unassociated"),
+            _ => write!(f, "colour {asoc}"),
+        }
     }
-    if asoc == 65535 {
-        say::text(rt, json, b"unassociated)|");
-        return;
+}
+
+impl<P: Print> Report<'_, P> {
+    // The four letters of a brand.
+    pub(crate) fn code(&self, c: &[u8]) {
+        self.say(" '", "\"");
+        self.quoted(box_number::part(c, 0, 4));
+        self.say("'", "\"")
     }
-    field(rt, json, b"colour #)|", asoc);
+
+    pub(crate) fn component(&self, i: usize, c: &[u8]) {
+        let b = box_number::read_u8(c, 0);
+        let depth = Depth(u32::from(b));
+        self.say(format_args!("\n    component {i}: {b} ({depth})"), b)
+    }
+
+    pub(crate) fn column(&self, i: usize, c: &[u8]) {
+        let b = box_number::read_u8(c, 0);
+        let depth = Depth(u32::from(b));
+        let bits = b % 128 + 1;
+        let sign = b / 128;
+        self.say(
+            format_args!("\n    B {i}: {b} ({depth})"),
+            format_args!("{{\"B\":{b},\"bits\":{bits},\"sign\":{sign}}}"),
+        )
+    }
+
+    pub(crate) fn mapping(&self, i: usize, c: &[u8]) {
+        let cmp = box_number::read_u16(c, 0);
+        let mtyp = box_number::read_u8(c, 2);
+        let pcol = box_number::read_u8(c, 3);
+        let from = match mtyp {
+            0 => "direct",
+            1 => "palette",
+            _ => "unknown",
+        };
+        self.say(
+            format_args!("\n    channel {i}: CMP {cmp}, MTYP {mtyp} ({from}), PCOL {pcol}"),
+            format_args!("{{\"CMP\":{cmp},\"MTYP\":{mtyp},\"PCOL\":{pcol}}}"),
+        )
+    }
+
+    pub(crate) fn definition(&self, c: &[u8]) {
+        let cn = box_number::read_u16(c, 0);
+        let typ = box_number::read_u16(c, 2);
+        let asoc = box_number::read_u16(c, 4);
+        let channel = match typ {
+            0 => "colour",
+            1 => "opacity",
+            2 => "premultiplied opacity",
+            65535 => "unspecified",
+            _ => "unknown",
+        };
+        let association = Association(asoc);
+        self.say(
+            format_args!("\n    Cn {cn}, Typ {typ} ({channel}), Asoc {asoc} ({association})"),
+            format_args!("{{\"Cn\":{cn},\"Typ\":{typ},\"Asoc\":{asoc}}}"),
+        )
+    }
 }

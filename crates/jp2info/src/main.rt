@@ -13,7 +13,8 @@ mod say;
 mod usage;
 mod utf8;
 
-use load::Loaded;
+use load::{Failure, complain};
+use say::Report;
 use std::env::{Env, FillError};
 use std::rt::Files;
 
@@ -27,7 +28,22 @@ fn main(rt: HostRuntime) {
         return;
     }
     let mut room = room();
-    each_word(&rt, &rt.stderr(), count, &mut room);
+    let mut run = Run {
+        rt: &rt,
+        err: rt.stderr(),
+        json: false,
+        room: &mut room,
+    };
+    for i in 1..count {
+        run.word(i);
+    }
+}
+
+// A function of its own: in main the proof would write the list out.
+fn room() -> [u8; ROOM]
+    ensures { ROOM ≡ length result }
+{
+    [0; ROOM]
 }
 
 // How many arguments there are, the program's own name among them.
@@ -41,71 +57,50 @@ fn arg_count(rt: &impl Env) -> usize {
     usize::MAX
 }
 
-fn room() -> [u8; ROOM]
-    ensures { 5242880 ≡ length result }
-{
-    [0; ROOM]
-}
-
-fn each_word<R: Env + Files + Print>(rt: &R, err: &impl Print, count: usize, room: &mut [u8]) {
-    let mut json = false;
-    let mut i = 1;
-    while i < count {
-        json = word(rt, err, json, i, room);
-        i += 1;
-    }
-}
-
-// Argument i. Whether files come as JSON from here on.
-fn word<R: Env + Files + Print>(
-    rt: &R,
-    err: &impl Print,
+// Where output and complaints go, whether files come as JSON from here on, and the room for a file.
+#[derive(Drop)]
+struct Run<'a, R, E> {
+    rt: R,
+    err: E,
     json: bool,
-    i: usize,
-    room: &mut [u8],
-) -> bool {
-    let mut name = [0u8; 4096];
-    match rt.arg(i, &mut name) {
-        Ok(n) => obey(rt, err, json, &name[..n], room),
-        Err(_) => {
-            load::complain(err, &name, b"..: File name too long\n");
-            json
+    room: &'a mut [u8],
+}
+
+impl<R: Env + Files + Print, E: Print> Run<'_, R, E> {
+    // Argument i.
+    fn word(&mut self, i: usize) {
+        let mut name = [0u8; 4096];
+        match self.rt.arg(i, &mut name) {
+            Ok(n) => self.obey(&name[..n]),
+            Err(_) => complain(&self.err, &name, "..: File name too long"),
+        }
+    }
+
+    // One of the two words, or a file's name.
+    fn obey(&mut self, s: &[u8]) {
+        match s {
+            b"--json" => self.json = true,
+            b"--help" => usage::usage(&self.rt),
+            _ => self.file(s),
+        }
+    }
+
+    fn file(&mut self, name: &[u8]) {
+        match load::load(&self.rt, name, self.room) {
+            Ok(file) => show(&self.rt, &self.err, self.json, name, file),
+            Err(e) => complain(&self.err, name, format_args!(": {e}")),
         }
     }
 }
 
-// One of the two words, or a file's name.
-fn obey<R: Files + Print>(rt: &R, err: &impl Print, json: bool, s: &[u8], room: &mut [u8]) -> bool {
-    if is(s, b"--json") {
-        return true;
+// Where output no longer arrives, this is where it is noticed.
+fn show(rt: &impl Print, err: &impl Print, json: bool, name: &[u8], file: &[u8]) {
+    if file.is_empty() {
+        complain(err, name, ": empty file");
     }
-    if is(s, b"--help") {
-        usage::usage(rt);
-        return json;
-    }
-    file(rt, err, json, s, room);
-    json
-}
-
-// Whether both have the same bytes.
-fn is(s: &[u8], word: &[u8]) -> bool {
-    if s.len() != word.len() {
-        return false;
-    }
-    let mut i = 0;
-    while i < s.len() {
-        if s[i] != box_number::read_u8(word, i) {
-            return false;
-        }
-        i += 1;
-    }
-    true
-}
-
-fn file<R: Files + Print>(rt: &R, err: &impl Print, json: bool, name: &[u8], room: &mut [u8]) {
-    let loaded = load::load(rt, err, name, room);
-    if let Loaded::Whole(n) = loaded {
-        let file = box_number::part(room, 0, n);
-        record::reading(rt, err, json, name, file, read_file::read_file(file));
+    let report = Report { rt, json, file };
+    if let Err(e) = report.reading(name, read_file::read_file(file)) {
+        let e = Failure::System(e);
+        complain(err, b"standard output", format_args!(": {e}"));
     }
 }

@@ -1,323 +1,267 @@
 // What is said of a file: for people its name, then a field a line, a line's end before the next line; or one line of JSON.
 // In JSON a box that the record has nothing of is null, and a list without items is empty. Numbers are as in the file.
-use crate::items::Item;
-use crate::say::{field, note, pair, text, word};
-use crate::{items, lists, say};
+use crate::items::Depth;
+use crate::say::Report;
+use box_refusal::{Cause, Refusal};
 use read_record::{Colour, FileType, Image, Jp2, Lab, Palette, Span};
-use read_rules::{FileAnswer, Reading};
+use read_rules::{FileEnd, Reading};
+use std::io;
 
-pub(crate) fn reading(
-    rt: &impl Print,
-    err: &impl Print,
-    json: bool,
-    name: &[u8],
-    file: &[u8],
-    r: Reading,
-) {
-    text(rt, json, b"|{\"file\":\"");
-    say::quoted(rt, json, name);
-    outcome(rt, json, file, r);
-    say::end(rt, err, json);
-}
-
-// Where reading ended comes before the record in JSON, and after it for people.
-fn outcome(rt: &impl Print, json: bool, file: &[u8], r: Reading) {
-    let answer = r.answer;
-    if let FileAnswer::Refused(n, place) = answer {
-        refused(rt, json, n, place);
-        return;
+impl<P: Print> Report<'_, P> {
+    // Where a piece does not arrive the others still follow; the answer is whether the last one did.
+    pub(crate) fn reading(
+        &self,
+        name: &[u8],
+        reading: Result<Reading, Refusal<u32>>,
+    ) -> io::Result<()> {
+        self.say("", "{\"file\":\"");
+        self.quoted(name);
+        match reading {
+            Ok(reading) => self.read(reading),
+            Err(refusal) => self.refused(refusal),
+        }
+        self.write("\n", "}\n")
     }
-    if json {
-        codestream(rt, json, answer);
-        record(rt, json, file, r.jp2);
-        return;
-    }
-    record(rt, json, file, r.jp2);
-    codestream(rt, json, answer);
-}
 
-fn codestream(rt: &impl Print, json: bool, answer: FileAnswer) {
-    if let FileAnswer::Codestream(offset) = answer {
-        field(
-            rt,
-            json,
-            b"\n  codestream: at #|\",\"answer\":\"codestream\",\"codestream\":#",
-            offset as usize,
+    // Where reading ended comes before the record in JSON, and after it for people.
+    fn read(&self, reading: Reading) {
+        let Reading { end, jp2 } = reading;
+        if self.json {
+            self.end(end);
+            self.record(jp2)
+        } else {
+            self.record(jp2);
+            self.end(end)
+        }
+    }
+
+    fn end(&self, end: FileEnd) {
+        match end {
+            FileEnd::Codestream(offset) => self.say(
+                format_args!("\n  codestream: at {offset}"),
+                format_args!("\",\"answer\":\"codestream\",\"codestream\":{offset}"),
+            ),
+            FileEnd::Ended => self.say(
+                "\n  codestream: none, ended",
+                "\",\"answer\":\"ended\",\"codestream\":null",
+            ),
+        }
+    }
+
+    fn refused(&self, refusal: Refusal<u32>) {
+        let number = refusal.cause.number();
+        let cause = words(refusal.cause);
+        let place = refusal.place;
+        self.say(
+            format_args!("\n  refused: {number}, {cause}, box at {place}"),
+            format_args!(
+                "\",\"answer\":\"refused\",\"number\":{number},\"cause\":\"{cause}\",\"place\":{place}"
+            ),
+        )
+    }
+
+    fn record(&self, jp2: Jp2) {
+        let l = jp2.lists;
+        self.filetype(jp2.filetype, l.cl);
+        self.image(jp2.image);
+        self.list(
+            "\n  BPCC:",
+            ",\"bpcc\":[",
+            1,
+            l.bpcc,
+            |i, c| self.component(i, c),
         );
-        return;
+        self.colour(jp2.colour, l.icc);
+        self.pclr(l.pclr);
+        self.list(
+            "\n  cmap:",
+            ",\"cmap\":[",
+            4,
+            l.cmap,
+            |i, c| self.mapping(i, c),
+        );
+        self.list(
+            "\n  cdef:",
+            ",\"cdef\":[",
+            6,
+            l.cdef,
+            |_, c| self.definition(c),
+        )
     }
-    text(
-        rt,
-        json,
-        b"\n  codestream: none, ended|\",\"answer\":\"ended\",\"codestream\":null",
-    );
-}
 
-// Why a file is refused, from 0: the numbers 1 to 24 of document 01's table.
-fn refused(rt: &impl Print, json: bool, n: u32, place: u32) {
-    field(
-        rt,
-        json,
-        b"\n  refused: #, |\",\"answer\":\"refused\",\"number\":#,\"cause\":\"",
-        n as usize,
-    );
-    word(
-        rt,
-        n as usize,
-        b"\n\
-        file over 4294967295 bytes\n\
-        codestream without header bit\n\
-        length below own header\n\
-        content past the file\n\
-        other box before signature bit\n\
-        other box before file type bit\n\
-        jP: state not 0, not 4 bytes, or not 0x0d0a870a\n\
-        ftyp: state not 1, under 8 bytes, or rest not fours\n\
-        jp2h without file type bit\n\
-        child header cut, length field 0, or high word not 0\n\
-        child length below header or past jp2h\n\
-        jp2h lacks ihdr\n\
-        ihdr not 14 bytes\n\
-        zero height, width or count\n\
-        count over 16384\n\
-        colr under 3 bytes, or method 1 with under 4 left\n\
-        bpcc length not the count\n\
-        second pclr, cmap or cdef\n\
-        pclr entries 0 or over 1024, or columns 0\n\
-        pclr under 3 bytes, or widths or entries short\n\
-        cmap without pclr\n\
-        cmap short\n\
-        cdef under 2 bytes or short\n\
-        cdef count 0\n",
-    );
-    field(rt, json, b", box at #|\",\"place\":#", place as usize);
-}
-
-fn record(rt: &impl Print, json: bool, file: &[u8], jp2: Jp2) {
-    let l = jp2.lists;
-    filetype(rt, json, file, jp2.filetype, l.cl);
-    image(rt, json, jp2.image);
-    lists::list(
-        rt,
-        json,
-        b"\n  BPCC:|,\"bpcc\":[",
-        Item::Component,
-        file,
-        l.bpcc,
-    );
-    colour(rt, json, jp2.colour, l.icc);
-    pclr(rt, json, file, l.pclr);
-    lists::list(
-        rt,
-        json,
-        b"\n  cmap:|,\"cmap\":[",
-        Item::Mapping,
-        file,
-        l.cmap,
-    );
-    lists::list(
-        rt,
-        json,
-        b"\n  cdef:|,\"cdef\":[",
-        Item::Definition,
-        file,
-        l.cdef,
-    );
-}
-
-// Where brand, version and list are 0, there was no ftyp box, or one of zeros.
-fn filetype(rt: &impl Print, json: bool, file: &[u8], t: FileType, cl: Span) {
-    if (cl.count | t.brand as usize | t.minversion as usize) == 0 {
-        text(rt, json, b"\n  ftyp: none|,\"ftyp\":null");
-        return;
+    // Where brand, version and list are 0, there was no ftyp box, or one of zeros.
+    fn filetype(&self, t: FileType, cl: Span) {
+        if cl.count == 0 && t.brand == 0 && t.minversion == 0 {
+            return self.say("\n  ftyp: none", ",\"ftyp\":null");
+        }
+        let version = t.minversion;
+        self.say("\n  BR:", ",\"ftyp\":{\"BR\":");
+        self.code(&t.brand.to_be_bytes());
+        self.say(
+            format_args!("\n  MinV: {version}\n  CL:"),
+            format_args!(",\"MinV\":{version}"),
+        );
+        self.list("", ",\"CL\":[", 4, cl, |_, c| self.code(c));
+        self.say("", "}")
     }
-    text(rt, json, b"\n  BR:|,\"ftyp\":{\"BR\":");
-    brand(rt, json, t.brand);
-    field(
-        rt,
-        json,
-        b"\n  MinV: #\n  CL:|,\"MinV\":#",
-        t.minversion as usize,
-    );
-    lists::list(rt, json, b"|,\"CL\":[", Item::Code, file, cl);
-    text(rt, json, b"|}");
-}
 
-fn brand(rt: &impl Print, json: bool, n: u32) {
-    let mut letters = [0u8; 4];
-    box_number::opj_write_bytes(&mut letters, 0, n, 4);
-    items::code(rt, json, &letters);
-}
-
-fn image(rt: &impl Print, json: bool, image: Image) {
-    if image.numcomps == 0 {
-        text(rt, json, b"\n  ihdr: none|,\"ihdr\":null");
-        return;
+    fn image(&self, image: Image) {
+        let Image {
+            h,
+            w,
+            numcomps,
+            bpc,
+            c,
+            unkc,
+            ipr,
+        } = image;
+        if numcomps == 0 {
+            return self.say("\n  ihdr: none", ",\"ihdr\":null");
+        }
+        self.say(
+            format_args!("\n  HEIGHT: {h}\n  WIDTH: {w}\n  NC: {numcomps}\n  BPC: {bpc} ("),
+            format_args!(
+                ",\"ihdr\":{{\"HEIGHT\":{h},\"WIDTH\":{w},\"NC\":{numcomps},\"BPC\":{bpc}"
+            ),
+        );
+        if bpc == 255 {
+            self.say("the components differ)", "");
+        } else {
+            self.say(format_args!("{})", Depth(bpc)), "");
+        }
+        self.say(
+            format_args!("\n  C: {c}\n  UnkC: {unkc}\n  IPR: {ipr}"),
+            format_args!(",\"C\":{c},\"UnkC\":{unkc},\"IPR\":{ipr}}}"),
+        )
     }
-    pair(
-        rt,
-        json,
-        b"\n  HEIGHT: #\n  WIDTH: #|,\"ihdr\":{\"HEIGHT\":#,\"WIDTH\":#",
-        image.h,
-        image.w,
-    );
-    pair(
-        rt,
-        json,
-        b"\n  NC: #\n  BPC: # (|,\"NC\":#,\"BPC\":#",
-        image.numcomps,
-        image.bpc,
-    );
-    bpc(rt, json, image.bpc);
-    pair(
-        rt,
-        json,
-        b"\n  C: #\n  UnkC: #|,\"C\":#,\"UnkC\":#",
-        image.c,
-        image.unkc,
-    );
-    field(rt, json, b"\n  IPR: #|,\"IPR\":#}", image.ipr as usize);
-}
 
-fn bpc(rt: &impl Print, json: bool, b: u32) {
-    if b == 255 {
-        text(rt, json, b"the components differ)|");
-        return;
+    // Where all that every method has is 0, there was no colr box, or one of zeros.
+    fn colour(&self, colour: Colour, icc: Span) {
+        let meth = colour.meth;
+        let precedence = colour.precedence;
+        let approx = colour.approx;
+        if colour.held == 0 && meth == 0 && precedence == 0 && approx == 0 {
+            return self.say("\n  colr: none", ",\"colr\":null");
+        }
+        let method = match meth {
+            1 => "enumerated colour space",
+            2 => "ICC profile",
+            _ => "unknown",
+        };
+        self.say(
+            format_args!("\n  METH: {meth} ({method})\n  PREC: {precedence}\n  APPROX: {approx}"),
+            format_args!(",\"colr\":{{\"METH\":{meth},\"PREC\":{precedence},\"APPROX\":{approx}"),
+        );
+        match meth {
+            1 => self.enumerated(colour),
+            2 => self.profile(icc),
+            _ => {}
+        }
+        self.say("", "}")
     }
-    items::depth(rt, json, b as usize);
-}
 
-// Where all that every method has is 0, there was no colr box, or one of zeros.
-fn colour(rt: &impl Print, json: bool, colour: Colour, icc: Span) {
-    if (colour.held | colour.meth | colour.precedence | colour.approx) == 0 {
-        text(rt, json, b"\n  colr: none|,\"colr\":null");
-        return;
+    // For people the size comes first.
+    fn profile(&self, icc: Span) {
+        let place = icc.place;
+        let size = icc.count;
+        self.say(
+            format_args!("\n  PROFILE: {size} bytes at {place}"),
+            format_args!(",\"PROFILE\":{{\"place\":{place},\"size\":{size}}}"),
+        )
     }
-    method(rt, json, colour.meth);
-    pair(
-        rt,
-        json,
-        b"\n  PREC: #\n  APPROX: #|,\"PREC\":#,\"APPROX\":#",
-        colour.precedence,
-        colour.approx,
-    );
-    content(rt, json, colour, icc);
-    text(rt, json, b"|}");
-}
 
-fn method(rt: &impl Print, json: bool, meth: u32) {
-    field(
-        rt,
-        json,
-        b"\n  METH: # (|,\"colr\":{\"METH\":#",
-        meth as usize,
-    );
-    note(
-        rt,
-        json,
-        meth as usize,
-        b"\n\
-        enumerated colour space\n\
-        ICC profile\n",
-    );
-    text(rt, json, b")|");
-}
-
-fn content(rt: &impl Print, json: bool, colour: Colour, icc: Span) {
-    if colour.meth == 1 {
-        space(rt, json, colour.enumcs);
-        lab(rt, json, colour.lab);
-        return;
+    fn enumerated(&self, colour: Colour) {
+        let enumcs = colour.enumcs;
+        let space = space(enumcs);
+        self.say(
+            format_args!("\n  EnumCS: {enumcs} ({space})"),
+            format_args!(",\"EnumCS\":{enumcs},\"space\":\"{space}\""),
+        );
+        self.lab(colour.lab)
     }
-    if colour.meth == 2 {
-        profile(rt, json, icc.place, icc.count);
+
+    // The numbers of CIELab, as many of them as count.
+    fn lab(&self, l: Lab) {
+        if l.count == 0 {
+            return;
+        }
+        let numbers = l.numbers;
+        let n = numbers.len().min(l.count as usize);
+        self.say("\n  CIELab: ", ",\"CIELab\":[");
+        self.join(&numbers[..n]);
+        self.say("", "]")
+    }
+
+    fn pclr(&self, p: Palette) {
+        if p.columns == 0 {
+            return self.say("", ",\"pclr\":null");
+        }
+        let entries = p.entries;
+        let columns = p.columns;
+        self.say(
+            format_args!("\n  pclr: NE {entries}, NPC {columns}"),
+            format_args!(",\"pclr\":{{\"NE\":{entries},\"NPC\":{columns},\"columns\":["),
+        );
+        self.columns(p);
+        self.say("", "],\"entries\":[");
+        self.entries(p);
+        self.say("", "]}")
     }
 }
 
-// For people the size comes first.
-fn profile(rt: &impl Print, json: bool, place: usize, size: usize) {
-    field(
-        rt,
-        json,
-        b"\n  PROFILE: # bytes at |,\"PROFILE\":{\"place\":",
-        size,
-    );
-    field(rt, json, b"#|#", place);
-    field(rt, json, b"|,\"size\":#}", size);
-}
-
-// EnumCS, from 0: I.5.3.3, and Annex M of ISO/IEC 15444-2.
-fn space(rt: &impl Print, json: bool, enumcs: u32) {
-    field(
-        rt,
-        json,
-        b"\n  EnumCS: # (|,\"EnumCS\":#,\"space\":\"",
-        enumcs as usize,
-    );
-    word(
-        rt,
-        enumcs as usize,
-        b"bi-level\n\
-        YCbCr(1)\n\
-        \n\
-        YCbCr(2)\n\
-        YCbCr(3)\n\
-        \n\
-        \n\
-        \n\
-        \n\
-        PhotoYCC\n\
-        \n\
-        CMY\n\
-        CMYK\n\
-        YCCK\n\
-        CIELab\n\
-        bi-level(2)\n\
-        sRGB\n\
-        greyscale\n\
-        sYCC\n\
-        CIEJab\n\
-        e-sRGB\n\
-        ROMM-RGB\n\
-        YPbCr(1125/60)\n\
-        YPbCr(1250/50)\n\
-        e-sYCC\n",
-    );
-    text(rt, json, b")|\"");
-}
-
-// The numbers of CIELab, as many of them as count.
-fn lab(rt: &impl Print, json: bool, l: Lab) {
-    if l.count == 0 {
-        return;
+// Why a file is refused. Reading has the first 24 causes.
+fn words(cause: Cause) -> &'static str {
+    match cause {
+        Cause::FileTooLong => "file over 4294967295 bytes",
+        Cause::CodestreamTooEarly => "codestream without header bit",
+        Cause::LengthBelowHeader => "length below own header",
+        Cause::PastTheFile => "content past the file",
+        Cause::BeforeSignature => "other box before signature bit",
+        Cause::BeforeFileType => "other box before file type bit",
+        Cause::Signature => "jP: state not 0, not 4 bytes, or not 0x0d0a870a",
+        Cause::FileType => "ftyp: state not 1, under 8 bytes, or rest not fours",
+        Cause::HeaderTooEarly => "jp2h without file type bit",
+        Cause::ChildHeader => "child header cut, length field 0, or high word not 0",
+        Cause::ChildLength => "child length below header or past jp2h",
+        Cause::NoImageHeader => "jp2h lacks ihdr",
+        Cause::ImageHeaderLength => "ihdr not 14 bytes",
+        Cause::ZeroSize => "zero height, width or count",
+        Cause::TooManyComponents => "count over 16384",
+        Cause::ColourTooShort => "colr under 3 bytes, or method 1 with under 4 left",
+        Cause::BitsLength => "bpcc length not the count",
+        Cause::SecondList => "second pclr, cmap or cdef",
+        Cause::PaletteSize => "pclr entries 0 or over 1024, or columns 0",
+        Cause::PaletteTooShort => "pclr under 3 bytes, or widths or entries short",
+        Cause::MappingWithoutPalette => "cmap without pclr",
+        Cause::MappingTooShort => "cmap short",
+        Cause::DefinitionTooShort => "cdef under 2 bytes or short",
+        Cause::NoDefinitions => "cdef count 0",
+        _ => "unknown",
     }
-    text(rt, json, b"\n  CIELab: |,\"CIELab\":[");
-    let numbers = l.numbers;
-    say::join(rt, json, first(&numbers, l.count as usize));
-    text(rt, json, b"|]");
 }
 
-fn first(numbers: &[u32], n: usize) -> &[u32] {
-    if numbers.len() < n {
-        return numbers;
+// EnumCS: I.5.3.3, and Annex M of ISO/IEC 15444-2.
+fn space(enumcs: u32) -> &'static str {
+    match enumcs {
+        0 => "bi-level",
+        1 => "YCbCr(1)",
+        3 => "YCbCr(2)",
+        4 => "YCbCr(3)",
+        9 => "PhotoYCC",
+        11 => "CMY",
+        12 => "CMYK",
+        13 => "YCCK",
+        14 => "CIELab",
+        15 => "bi-level(2)",
+        16 => "sRGB",
+        17 => "greyscale",
+        18 => "sYCC",
+        19 => "CIEJab",
+        20 => "e-sRGB",
+        21 => "ROMM-RGB",
+        22 => "YPbCr(1125/60)",
+        23 => "YPbCr(1250/50)",
+        24 => "e-sYCC",
+        _ => "unknown",
     }
-    &numbers[..n]
-}
-
-fn pclr(rt: &impl Print, json: bool, file: &[u8], p: Palette) {
-    if p.columns == 0 {
-        text(rt, json, b"|,\"pclr\":null");
-        return;
-    }
-    pair(
-        rt,
-        json,
-        b"\n  pclr: NE #, NPC #|,\"pclr\":{\"NE\":#,\"NPC\":#,\"columns\":[",
-        p.entries,
-        p.columns,
-    );
-    lists::columns(rt, json, file, p);
-    text(rt, json, b"|],\"entries\":[");
-    lists::entries(rt, json, file, p);
-    text(rt, json, b"|]}");
 }

@@ -2,32 +2,37 @@
 #![tactic(auto)]
 
 ghost use Rattle.std.specs.Prelude.{◌≡◌};
-ghost use Rattle.picture_rules.specs.Image.{image};
+ghost use Rattle.box_refusal.specs.Told.{told};
 ghost use Rattle.picture_rules.specs.Channels.{channels};
 ghost use Rattle.picture_check.specs.Checked.{checked};
 
+use crate::lent::Lent;
+use box_refusal::{Cause, Refusal};
 use picture_rules::Settings;
 use read_record::Jp2;
 
 mod bounds;
 mod definitions;
+pub mod lent;
 mod mappings;
 
-// What the checks answer: how many channels there are and whether the mappings are to be corrected, or document 01's number and the index.
-#[derive(Clone, Copy)]
-pub enum Checked {
-    Passed(u32, bool),
-    Refused(u32, u32),
+// A picture that passes the checks: how many channels it has, and whether its mappings are to be corrected.
+#[derive(Clone, Copy, Debug, PartialEq, Eq, Hash)]
+pub struct Checked {
+    pub channels: u32,
+    pub corrected: bool,
 }
 
 // How many channels a picture of n components has.
+#[tactic(auto, unfolding(picture_rules::specs::Channels::channels, box_number::specs::Table::table))]
 fn channel_count(m: Jp2, n: u32) -> u32
     ensures { result ≡ channels m n }
 {
     if m.lists.cmap.count != 0 {
-        return m.lists.pclr.columns;
+        m.lists.pclr.columns
+    } else {
+        n
     }
-    n
 }
 
 // The checks for the picture of a file f with the record m from reading it, in the order of document 01's table, by the edition in the settings s. With any ignore flag but 0 only number 29 is left of them.
@@ -35,36 +40,51 @@ pub fn opj_jp2_check_color(
     f: &[u8],
     m: Jp2,
     s: Settings,
-    comps: &[u32],
-    count: u32,
-    samples: &[i32],
-) -> Checked
-    ensures { result ≡ checked f.now m s (image comps.now count samples.now) }
+    lent: &Lent<'_>,
+) -> Result<Checked, Refusal<u32>>
+    ensures { told result ≡ checked f.now m s lent.now }
 {
-    if bounds::outside(f, m, comps, count, samples) {
-        return Checked::Refused(29, 0);
+    if bounds::outside(f, m, lent) {
+        return Err(Refusal {
+            cause: Cause::OutsideItsList,
+            place: 0,
+        });
     }
     if s.ignore != 0 {
-        return Checked::Passed(count, false);
+        return Ok(Checked {
+            channels: lent.count,
+            corrected: false,
+        });
     }
     let cdef = m.lists.cdef;
     let cmap = m.lists.cmap;
-    let n = channel_count(m, count);
-    let wrong = definitions::first_misnamed(f, cdef, n);
-    if wrong < cdef.count {
-        return Checked::Refused(25, wrong as u32);
+    let n = channel_count(m, lent.count);
+    if let Some(j) = definitions::first_misnamed(f, cdef, n) {
+        return Err(Refusal {
+            cause: Cause::ChannelMisnamed,
+            place: j as u32,
+        });
     }
-    let lacking = definitions::first_undefined(f, cdef, s.edition2, n);
-    if lacking < n {
-        return Checked::Refused(26, lacking);
+    if let Some(c) = definitions::first_undefined(f, cdef, s.edition2, n) {
+        return Err(Refusal {
+            cause: Cause::ChannelUndefined,
+            place: c,
+        });
     }
-    let astray = mappings::first_mismapped(f, cmap, count);
-    if astray < cmap.count {
-        return Checked::Refused(27, astray as u32);
+    if let Some(i) = mappings::first_mismapped(f, cmap, lent.count) {
+        return Err(Refusal {
+            cause: Cause::MappingFails,
+            place: i as u32,
+        });
     }
-    let blank = mappings::first_dataless(f, cmap, comps);
-    if blank < cmap.count {
-        return Checked::Refused(28, blank as u32);
+    if let Some(k) = mappings::first_dataless(f, cmap, lent) {
+        return Err(Refusal {
+            cause: Cause::NoSamples,
+            place: k as u32,
+        });
     }
-    Checked::Passed(n, mappings::is_corrected(f, cmap, count))
+    Ok(Checked {
+        channels: n,
+        corrected: mappings::is_corrected(f, cmap, lent.count),
+    })
 }

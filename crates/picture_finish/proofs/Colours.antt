@@ -15,15 +15,14 @@ use Rattle.picture_order.proofs.Fronts.{reordered-front}
 use Rattle.picture_rules.specs.Image.{Image}
 use Rattle.picture_rules.specs.Channels.{channels}
 use Rattle.picture_rules.specs.Finish.{Finishing, finished, expanded, picture}
-use Rattle.picture_rules.specs.declared.Finished.{Finished}
-use Rattle.picture_rules.specs.declared.Finished.TheVariants.{Planes, Refused}
+use Rattle.box_refusal.specs.Told.{accepted, refused}
 use Rattle.picture_rules.specs.Answers.{answered, fronted, records_after, samples_after, Done}
 use Rattle.picture_finish.specs.Private.Parts.{unordered}
 use Rattle.picture_rules.proofs.Wholes.{declined-done}
 use Rattle.picture_finish.proofs.Rooms.{refused-is}
 
-pub refused-done : (x : Finishing) {r : Finished} {number place : ℕ} (records : List ℕ) (planes : List ℤ) → r ≡ answered x → r ≡ Refused number place → Done x (Refused number place) records records planes planes
-refused-done x records planes e d = declined-done x records planes (refused-is x (sym d ∙ e))
+pub refused-done : (x : Finishing) {number place : ℕ} (records : List ℕ) (planes : List ℤ) → refused number place ≡ answered x → Done x (refused number place) records records planes planes
+refused-done x records planes e = declined-done x records planes (refused-is x e)
 
 module _ (edition2 : ℕ) (f : List ℕ) (m : Jp2) (i : Image) where
   -- packed channels that are put in order are the finished picture
@@ -49,11 +48,11 @@ module _ (edition2 : ℕ) (f : List ℕ) (m : Jp2) (i : Image) where
 
   pub finished-done : (x : Finishing) {n : ℕ} {records records' packed : List ℕ} {planes planes' : List ℤ} → x ≡ finished (picture edition2 f m i) → n ≡ channels m i.count →
       packed ≡ fronted (unordered f m i).components records → records' ≡ reordered edition2 f m.lists.cdef n packed → planes' ≡ fronted (unordered f m i).samples planes →
-      Done x (Planes n) records records' planes planes'
+      Done x (accepted n) records records' planes planes'
   unfolding answered records_after samples_after
   finished-done x {n} {records} {records'} {packed} {planes} {planes'} e all p r s =
       record {
-        answer = rw e (ap Planes (all ∙ sym counts));
+        answer = rw e (ap accepted (all ∙ sym counts));
         numbers = rw e (r ∙ ap (reordered edition2 f m.lists.cdef n) p ∙ ordered n records all);
         samples = rw e (s ∙ ap (λ xs. fronted xs planes) same-samples);
       }

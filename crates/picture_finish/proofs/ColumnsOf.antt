@@ -7,7 +7,7 @@ use mathlib.Core.Bool.{false}
 use mathlib.Core.List.{List}
 use lib.IntN.{ℤ}
 use lib.ListN.{length}
-use Rattle.box_number.specs.Table.{◌=?◌}
+use Rattle.box_number.specs.Table.{◌=?◌, holds, table}
 use Rattle.box_number.specs.Number.{number, part}
 use Rattle.box_number.proofs.Rows.{Says}
 use Rattle.box_number.proofs.Indices.{decide}
@@ -56,8 +56,8 @@ module _ (f : List ℕ) (p : Palette) (c : ℕ) where
       let at : p.place + off ≡ p.place + p.columns + j * row_size f p + row_bytes f p.place c = omega arith in
       ap displayed (rest-number f p.place off (entry_bytes (B f p c)) ∙ ap (λ x. number f x (entry_bytes (B f p c))) at)
 
-  pub value-is : (typ : ℕ) {s : List ℕ} {k : Column} → s ≡ rest → k ≡ column_for → (v : ℤ) → value_by s k typ v ≡ value_for f p c typ v
-  unfolding value_for
+  pub value-is : (typ : ℕ) {s : List ℕ} {k : Column} → s ≡ rest → k ≡ column_for → (v : ℤ) → value_by s k (holds (typ =? 1)) v ≡ value_for f p c typ v
+  unfolding value_for table
   value-is typ e d v = rw (e, d, picked-is v) refl
 
   -- a palette that lies in the file has the column

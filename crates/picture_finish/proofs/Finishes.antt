@@ -1,13 +1,14 @@
 -- Finishing as a whole: what the answer of the checks says of it.
 -- Assumes nothing.
 use Prim.Native.Nat.{ℕ, ◌≤◌, ◌<◌}
-use mathlib.Core.Path.{◌≡◌, refl, sym}
+use mathlib.Core.Path.{◌≡◌, refl, sym, subst}
 use mathlib.Core.Bool.{Bool, true, false}
 use mathlib.Core.List.{List}
 use Rattle.box_number.specs.Table.{◌or◌, ◌and◌, holds}
 use Rattle.box_number.specs.Lowest.{lowest}
 use Rattle.box_number.proofs.Rows.{Says, row, each}
 use Rattle.box_number.proofs.Indices.{lowest-none}
+use Rattle.box_refusal.specs.Told.{Told, accepted, refused}
 use Rattle.read_record.specs.declared.Jp2.{Jp2}
 use Rattle.picture_rules.specs.Image.{Image}
 use Rattle.picture_rules.specs.declared.Settings.{Settings}
@@ -16,7 +17,6 @@ use Rattle.picture_rules.specs.Channels.{mapped, channels, corrected}
 use Rattle.picture_rules.specs.Check.{misnamed, undefined, mismapped, dataless}
 use Rattle.picture_rules.specs.Finish.{Finishing, declined, outside_lists, outside_file, counted, fitted, colour_checks, checks, finish}
 use Rattle.picture_check.specs.declared.Checked.{Checked}
-use Rattle.picture_check.specs.declared.Checked.TheVariants.{Passed, Refused}
 use Rattle.picture_check.specs.Checked.{checked}
 use Rattle.picture_finish.specs.Private.Parts.{Tested}
 
@@ -58,9 +58,10 @@ module _ (h : Handed) (m : Jp2) where
     pub all : n ≡ channels k i.count
     pub flags : correct ≡ holds (mapped k and corrected f k.lists.cmap i.count)
 
-  abbrev Told : Checked → Type 0
-  Told (Passed n correct) = Passes n correct
-  Told (Refused number place) = finish h m ≡ declined number place
+  -- what an answer of the checks says of it
+  abbrev Says-of : Told Checked → Type 0
+  Says-of (accepted p) = Passes p.channels p.corrected
+  Says-of (refused number place) = finish h m ≡ declined number place
 
   finish_29 : Says true (outside_lists i or outside_file f m) → finish h m ≡ declined 29 0
   unfolding finish checks
@@ -103,22 +104,21 @@ module _ (h : Handed) (m : Jp2) where
                 flags = refl;
               }
 
-  told : Told (checked f m h.settings i)
+  said-of : Says-of (checked f m h.settings i)
   unfolding checked checks colour_checks
-  told =
-      each Told _ (
+  said-of =
+      each Says-of _ (
         finish_29,
         λ inside.
-            each Told _ (
+            each Says-of _ (
               told_25 inside,
               λ named. (told_26 inside named, λ defined. (told_27 inside named defined, λ mapping. (told_28 inside named defined mapping, told-passed inside named defined mapping))),
             ),
       )
 
   -- an answer of the checks
-  module _ {r : Checked} (d : r ≡ checked f m h.settings i) where
-    pub entry-refused : {number place : ℕ} → r ≡ Refused number place → finish h m ≡ declined number place
-    entry-refused {number} {place} e = let t : Told r = rw d told in rw e at t
+  pub entry-refused : {number place : ℕ} → refused number place ≡ checked f m h.settings i → finish h m ≡ declined number place
+  entry-refused e = subst Says-of (sym e) said-of
 
-    pub entry-passed : {n : ℕ} {correct : Bool} → r ≡ Passed n correct → Passes n correct
-    entry-passed {n} {correct} e = let t : Told r = rw d told in rw e at t
+  pub entry-passed : {p : Checked} → accepted p ≡ checked f m h.settings i → Passes p.channels p.corrected
+  entry-passed e = subst Says-of (sym e) said-of

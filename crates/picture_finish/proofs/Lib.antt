@@ -4,3 +4,4 @@ pub mod Rooms
 pub mod Packs
 pub mod Colours
 pub mod Finishes
+pub mod Sums

@@ -7,26 +7,17 @@ use native.Mathlib.Omega.{arith}
 use native.Mathlib.Decide.{ℕ_discrete}
 use lib.ListN.{length, get_or, set, length-set}
 use lib.Seq.{get_or-set_same, get_or-set_other}
+use Rattle.std.proofs.lemmas.List.Edits.{swap_is}
 use Rattle.box_number.specs.Table.{◌=?◌, ◌and◌, otherwise, ◌⇒◌∣◌, table}
 use Rattle.box_number.proofs.Rows.{each}
 use Rattle.picture_rules.specs.Order.{Arranged, exchange, swapped, marked}
 use Rattle.picture_order.specs.Flat.{number_at}
-use Rattle.picture_order.specs.Private.Steps.{Exchanged, Positioned, Agree}
+use Rattle.picture_order.specs.Private.Positions.{Positioned}
+use Rattle.picture_order.specs.Private.Steps.{Exchanged, Agree}
 use Rattle.picture_rules.proofs.Exchange
 use Rattle.picture_order.proofs.Swapping.{get_or-swap}
 
 -- at the start every channel is at its own number
-pub positioned-start : (n : ℕ) (positions channels : List ℕ) → n ≤ 16384 → n ≤ length positions → n ≤ length channels → ((c : ℕ) → c < n → get_or positions c 0 ≡ c) → ((p : ℕ) → p < n → get_or channels p 0 ≡ p) → Positioned n positions channels
-positioned-start n positions channels few s h e f = record {
-  few = few;
-  positions-room = s;
-  channels-room = h;
-  positions-below = λ c i. rw (e c i) i;
-  channels-below = λ p i. rw (f p i) i;
-  there = λ c i. rw (e c i) (f c i);
-  here = λ p i. rw (f p i) (e p i);
-}
-
 pub agree-start : (n : ℕ) (recs positions : List ℕ) → ((c : ℕ) → c < n → get_or positions c 0 ≡ c) → Agree n recs positions (record { seat = λ c. c; records = number_at recs })
 agree-start n recs positions e = record { located = λ c h. sym (e c h); past = λ c h. h; says = λ r k l. refl }
 
@@ -78,7 +69,7 @@ module _ (n : ℕ) (positions channels : List ℕ) (w : Positioned n positions c
   channels-swap : (y : ℕ) → get_or (set (set channels q c) p (get_or channels q 0)) y 0 ≡ get_or channels (exchange p q y) 0
   channels-swap y =
       ap (λ x. get_or (set (set channels q x) p (get_or channels q 0)) y 0) (sym (w.there c hc) ∙ ap (λ x. get_or channels x 0) sc)
-      ∙ get_or-swap channels q p y (omega (arith, w.channels-room)) (omega (arith, hp, w.channels-room)) ∙ ap (λ x. get_or channels x 0) (Exchange.flip q p y)
+      ∙ rw (swap_is channels q p 0 (omega (arith, w.channels-room)) (omega (arith, hp, w.channels-room))) (get_or-swap 0 channels q p y (omega (arith, w.channels-room)) (omega (arith, hp, w.channels-room))) ∙ ap (λ x. get_or channels x 0) (Exchange.flip q p y)
 
   pub positioned-swap : Positioned n (set (set positions c q) (get_or channels q 0) p) (set (set channels q c) p (get_or channels q 0))
   positioned-swap = record {

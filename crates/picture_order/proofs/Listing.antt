@@ -7,7 +7,7 @@ use native.Mathlib.Omega.{arith}
 use native.Mathlib.Numerals.{add-one}
 use borrow.Author.Tests.{ltb-true, ltb-false}
 use lib.Dec.{ltb}
-use lib.ListN.{length, get_or, drop, length-append, length-drop, get_or-append}
+use lib.ListN.{length, get_or, set, drop, length-append, length-drop, get_or-append}
 use lib.Seq.{get_or-append-add, get_or-drop, ext_get_or}
 use Rattle.box_number.specs.Table.{◌=?◌, ◌and◌, otherwise, ◌⇒◌∣◌, table}
 use Rattle.box_number.proofs.Rows.{row, each, either}
@@ -18,7 +18,8 @@ use Rattle.picture_rules.specs.Order.{Arranged, define, run_definitions, arrange
 use Rattle.picture_rules.specs.Flat.{flat}
 use Rattle.picture_rules.proofs.Flats.{flat-length, flat-number}
 use Rattle.picture_order.specs.Flat.{number_at, reordered}
-use Rattle.picture_order.specs.Private.Steps.{Agree}
+use Rattle.picture_order.specs.Private.Steps.{Exchanged, Agree, Asked, Does}
+use Rattle.picture_order.specs.declared.positions.Ask.{Ask}
 use Rattle.picture_rules.proofs.Exchange
 use Rattle.picture_rules.proofs.Steps.{rows}
 
@@ -54,6 +55,10 @@ run-last : (edition2 n : ℕ) (ds : List Def) (d : Def) (a : Arranged) → run_d
 unfolding run_definitions
 run-last edition2 n [] d a = refl
 run-last edition2 n (e ∷ ds) d a = run-last edition2 n ds d (define edition2 n e a)
+
+-- what a definition asks is done
+pub followed : (n edition2 : ℕ) {d : Def} {positions positions' l m' : List ℕ} (m : List ℕ) (r : Ask) → Asked n edition2 d positions r positions' → 13 * n ≤ length l → Exchanged r.i r.j l m → length m ≡ length l → m' ≡ set m (13 * r.i + 12) r.mark → Does n edition2 d l positions m' positions'
+followed n edition2 {d} {positions} {positions'} {l} m r h room x e s = rw s (h.does l m room x e)
 
 pub agree-more : (edition2 : ℕ) (f : List ℕ) (l : Span) (n i : ℕ) (records : ℕ → ℕ → ℕ) (recs positions : List ℕ) → Agree n recs positions (define edition2 n (definition f l i) (arranged edition2 n (definitions_to f l i) records)) → Agree n recs positions (arranged edition2 n (definitions_to f l (i + 1)) records)
 unfolding definitions_to

@@ -6,22 +6,19 @@ use mathlib.Core.List.{List}
 use native.Mathlib.Omega.{arith}
 use native.Mathlib.Decide.{ℕ_discrete}
 use lib.ListN.{length, get_or}
-use Rattle.lent_proofs.proofs.Swap.{swapped, length-swapped, swapped-first, swapped-second, swapped-other}
+use Rattle.std.specs.List.{swap}
+use Rattle.std.proofs.lemmas.List.Edits.{length-swap, swapped_from_swap}
 use Rattle.picture_rules.specs.Order.{exchange}
 use Rattle.picture_order.specs.Flat.{number_at}
 use Rattle.picture_order.specs.Private.Steps.{Exchanged}
 use Rattle.picture_rules.proofs.Exchange
 
--- l with the elements at a and at b exchanged
-abbrev pub swap : List ℕ → ℕ → ℕ → List ℕ
-swap l a b = swapped 0 l a b
-
-pub get_or-swap : (l : List ℕ) (a b i : ℕ) → a < length l → b < length l → get_or (swap l a b) i 0 ≡ get_or l (exchange a b i) 0
-get_or-swap l a b i ha hb =
-    Exchange.cases (λ x. get_or (swap l a b) i 0 ≡ get_or l x 0) a b i
-    (swapped-first 0 l a b i ha hb)
-    (swapped-second 0 l a b i hb)
-    (swapped-other 0 l a b i)
+pub get_or-swap : {A : Type 0} (none : A) (l : List A) (a b i : ℕ) → a < length l → b < length l → get_or (swap l a b) i none ≡ get_or l (exchange a b i) none
+get_or-swap none l a b i ha hb =
+    let h = swapped_from_swap l (swap l a b) a b none ha hb refl in
+    Exchange.cases (λ x. get_or (swap l a b) i none ≡ get_or l x none) a b i (λ e. ap (λ x. get_or (swap l a b) x none) e ∙ h.0)
+    (λ e. ap (λ x. get_or (swap l a b) x none) e ∙ h.1)
+    (h.2 i)
 
 -- number k of two records exchanged: number k of a record is that of the exchanged one, and any other number stays
 spot : (p q k r : ℕ) → exchange (13 * p + k) (13 * q + k) (13 * r + k) ≡ 13 * exchange p q r + k
@@ -44,18 +41,15 @@ pub record Partly (p q : ℕ) (l : List ℕ) (k : ℕ) (m : List ℕ) : Type 0 w
   pub past : (r j : ℕ) → j < k → j < 13 → number_at m r j ≡ number_at l (exchange p q r) j
   pub left : (r j : ℕ) → k ≤ j → j < 13 → number_at m r j ≡ number_at l r j
 
-pub partly_none : (p q : ℕ) (l : List ℕ) → Partly p q l 0 l
-partly_none p q l = record { size = refl; past = λ r j h i. absurd (omega arith); left = λ r j h i. refl }
-
 pub partly_more : (p q : ℕ) (l : List ℕ) (k : ℕ) (m : List ℕ) → k < 13 → 13 * p + 13 ≤ length l → 13 * q + 13 ≤ length l → Partly p q l k m → Partly p q l (k + 1) (swap m (13 * p + k) (13 * q + k))
 partly_more p q l k m hk hp hq w = record {
-  size = length-swapped 0 m _ _ ∙ w.size;
+  size = length-swap m _ _ ∙ w.size;
   past = λ r j h i. moved r j ∙ go r j h i (ℕ_discrete j k);
   left = λ r j h i. moved r j ∙ ap (λ x. get_or m x 0) (off p q k r j hk i (omega arith)) ∙ w.left r j (omega arith) i;
 }
   where
     moved : (r j : ℕ) → number_at (swap m (13 * p + k) (13 * q + k)) r j ≡ get_or m (exchange (13 * p + k) (13 * q + k) (13 * r + j)) 0
-    moved r j = get_or-swap m _ _ (13 * r + j) (omega (arith, w.size)) (omega (arith, w.size))
+    moved r j = get_or-swap 0 m _ _ (13 * r + j) (omega (arith, w.size)) (omega (arith, w.size))
 
     go : (r j : ℕ) → j < k + 1 → j < 13 → Dec (j ≡ k) → get_or m (exchange (13 * p + k) (13 * q + k) (13 * r + j)) 0 ≡ number_at l (exchange p q r) j
     go r j h i (yes e) = rw (e, spot p q k r) (w.left (exchange p q r) k (omega arith) hk)

@@ -1,10 +1,9 @@
 -- The reorder alone, as one table that is computed whole: its answer, and every number of the list afterwards, in both editions.
-use Rattle.std.specs.Prelude.{ℕ, ◌≡◌, refl, List, [], ◌∷◌, ◌++◌, take}
+use Rattle.std.specs.Prelude.{ℕ, ◌≡◌, refl, ⊤, List, [], ◌∷◌, ◌++◌, take}
 use Rattle.box_number.specs.Number.{number, bytes}
 use Rattle.box_number.specs.Table.{table}
+use Rattle.box_refusal.specs.Told.{Told, accepted, refused}
 use Rattle.read_record.specs.declared.Span.{Span}
-use Rattle.read_record.specs.declared.Answer.{Answer}
-use Rattle.read_record.specs.declared.Answer.TheVariants.{Done, Refused}
 use Rattle.read_record.specs.Record.{span}
 use Rattle.read_channels.specs.Definitions.{def, definitions_to}
 use Rattle.picture_rules.specs.Edition.{marked_position}
@@ -28,26 +27,26 @@ file = 7 ∷ 7 ∷ 7 ∷ definition_fields (def 0 0 2 ∷ def 1 2 0 ∷ [])
 infixr 20 ◌at◌count◌of◌gives◌with◌and◌∣◌
 pub data Cases : Type 0 where
   end : Cases
-  ◌at◌count◌of◌gives◌with◌and◌∣◌ : List ℕ → Span → ℕ → List ℕ → Answer → List ℕ → List ℕ → Cases → Cases
+  ◌at◌count◌of◌gives◌with◌and◌∣◌ : List ℕ → Span → ℕ → List ℕ → Told ⊤ → List ℕ → List ℕ → Cases → Cases
 
 abbrev pub cases : Cases
 cases =
     -- records change places, and what follows them stays
-    file at span 3 2 count 2 of pair ++ 55 ∷ [] gives Done with record_of 200 2 ++ record_of 100 9 ++ 55 ∷ [] and record_of 200 2 ++ record_of 100 0 ++ 55 ∷ [] ∣
+    file at span 3 2 count 2 of pair ++ 55 ∷ [] gives accepted tt with record_of 200 2 ++ record_of 100 9 ++ 55 ∷ [] and record_of 200 2 ++ record_of 100 0 ++ 55 ∷ [] ∣
     -- a record that is not counted stays
-    file at span 3 1 count 1 of pair gives Done with pair and pair ∣
+    file at span 3 1 count 1 of pair gives accepted tt with pair and pair ∣
     -- definitions that do not lie in the file: one byte short, and one place further
-    take 14 file at span 3 2 count 2 of pair gives Refused 29 0 with pair and pair ∣
-    file at span 4 2 count 2 of pair gives Refused 29 0 with pair and pair ∣
+    take 14 file at span 3 2 count 2 of pair gives refused 29 0 with pair and pair ∣
+    file at span 4 2 count 2 of pair gives refused 29 0 with pair and pair ∣
     -- no definitions, wherever their place is
-    [] at span 99 0 count 2 of pair gives Done with pair and pair ∣
+    [] at span 99 0 count 2 of pair gives accepted tt with pair and pair ∣
     -- a record of 12 numbers, and one that is not there
-    file at span 3 2 count 2 of take 25 pair gives Refused 29 0 with take 25 pair and take 25 pair ∣
-    [] at span 0 0 count 1 of [] gives Refused 29 0 with [] and [] ∣
-    [] at span 0 0 count 0 of [] gives Done with [] and [] ∣
+    file at span 3 2 count 2 of take 25 pair gives refused 29 0 with take 25 pair and take 25 pair ∣
+    [] at span 0 0 count 1 of [] gives refused 29 0 with [] and [] ∣
+    [] at span 0 0 count 0 of [] gives accepted tt with [] and [] ∣
     end
 
-abbrev pub answers : Cases → List Answer
+abbrev pub answers : Cases → List (Told ⊤)
 answers end = []
 answers (f at d count n of l gives r with e and g ∣ rest) = answered f d n l ∷ answers rest
 
@@ -55,7 +54,7 @@ abbrev pub lists : Cases → List (List ℕ)
 lists end = []
 lists (f at d count n of l gives r with e and g ∣ rest) = afterwards 0 f d n l ∷ afterwards 1 f d n l ∷ lists rest
 
-abbrev pub expected_answers : Cases → List Answer
+abbrev pub expected_answers : Cases → List (Told ⊤)
 expected_answers end = []
 expected_answers (f at d count n of l gives r with e and g ∣ rest) = r ∷ expected_answers rest
 

@@ -1,7 +1,6 @@
--- Component records, and what the list of them is after two changed places and one was marked.
-use Rattle.std.specs.Prelude.{ℕ, Bool, true, false, List, [], ◌∷◌, ◌++◌, get_or, set}
+-- Component records, and their numbers.
+use Rattle.std.specs.Prelude.{ℕ, List, [], ◌∷◌, ◌++◌}
 use Rattle.picture_order.specs.declared.lent.Comp.{Comp}
-use Rattle.picture_order.specs.declared.positions.Ask.{Ask}
 
 -- a record of zeros, which `get_or` gives past the end
 abbrev pub no_record : Comp
@@ -16,21 +15,3 @@ numbers_of c =
 unfoldable pub numbered : List Comp → List ℕ
 numbered [] = []
 numbered (c ∷ cs) = numbers_of c ++ numbered cs
-
-abbrev pub with-alpha : Comp → ℕ → Comp
-with-alpha c t = record { dx = c.dx; dy = c.dy; w = c.w; h = c.h; x0 = c.x0; y0 = c.y0; prec = c.prec; bpp = c.bpp; sgnd = c.sgnd; resno_decoded = c.resno_decoded; factor = c.factor; «data» = c.«data»; alpha = t }
-
-abbrev pub swapped_records : List Comp → ℕ → ℕ → List Comp
-swapped_records cs i j = set (set cs i (get_or cs j no_record)) j (get_or cs i no_record)
-
--- the mark, or the record as it is
-abbrev pub mark_of : Comp → ℕ → Bool → Comp
-mark_of c t true = with-alpha c t
-mark_of c t false = c
-
-abbrev pub marked_records : List Comp → ℕ → ℕ → Bool → List Comp
-marked_records cs i t on = set cs i (mark_of (get_or cs i no_record) t on)
-
--- the list once what a definition asks is done
-abbrev pub after_ask : Ask → List Comp → List Comp
-after_ask r cs = marked_records (swapped_records cs r.i r.j) r.i r.t r.on

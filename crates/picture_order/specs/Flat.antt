@@ -1,9 +1,8 @@
 -- Records of thirteen numbers in one list, and what the definitions of a file make of it.
-use Rattle.std.specs.Prelude.{ℕ, ◌+◌, ◌*◌, List, ◌++◌, length, get_or, drop}
+use Rattle.std.specs.Prelude.{ℕ, ◌+◌, ◌*◌, List, ◌++◌, ⊤, length, get_or, drop}
 use Rattle.box_number.specs.Table.{Test, ◌<?◌, ◌or◌, otherwise, ◌⇒◌∣◌, table}
+use Rattle.box_refusal.specs.Told.{Told, accepted, refused}
 use Rattle.read_record.specs.declared.Span.{Span}
-use Rattle.read_record.specs.declared.Answer.{Answer}
-use Rattle.read_record.specs.declared.Answer.TheVariants.{Done, Refused}
 use Rattle.read_record.specs.Component.{numbers_each, most_components}
 use Rattle.read_channels.specs.Definitions.{definitions, definitions_outside}
 use Rattle.picture_rules.specs.Order.{arranged}
@@ -24,8 +23,8 @@ abbrev pub reorder_outside : List ℕ → Span → ℕ → List ℕ → Test
 reorder_outside f cdef n l =
     most_components <? n or length l <? numbers_each * n or definitions_outside f cdef
 
-unfoldable pub answered : List ℕ → Span → ℕ → List ℕ → Answer
-answered f cdef n l = table (reorder_outside f cdef n l ⇒ Refused 29 0 ∣ otherwise Done)
+unfoldable pub answered : List ℕ → Span → ℕ → List ℕ → Told ⊤
+answered f cdef n l = table (reorder_outside f cdef n l ⇒ refused 29 0 ∣ otherwise (accepted tt))
 
 unfoldable pub afterwards : ℕ → List ℕ → Span → ℕ → List ℕ → List ℕ
 afterwards edition2 f cdef n l = table (reorder_outside f cdef n l ⇒ l ∣ otherwise (reordered edition2 f cdef n l))

@@ -1,4 +1,3 @@
-pub mod Entries
 pub mod Columns
 pub mod Picks
-pub mod Lookups
+pub mod Planes

@@ -7,7 +7,6 @@ pub mod Rules
 pub mod Flats
 pub mod Alike
 pub mod Packs
-pub mod Areas
 pub mod Rests
 pub mod Checks
 pub mod Listed

@@ -29,6 +29,10 @@ module _ (i : Image) (r : ℕ) where
   plane : List ℤ
   plane = take (size i r) (drop (first i r) i.samples)
 
+  pub size_none : first i r ≡ no_data → 0 ≡ size i r
+  unfolding size
+  size_none e = row 0 _ e refl
+
   pub size-some : (first i r ≡ no_data → ⊥) → height i r * width i r ≡ size i r
   unfolding size
   size-some h = row 1 _ (h, tt) refl

@@ -1,11 +1,11 @@
 -- A file from a place on: its numbers, and the bytes of a palette's row, are those of the file.
 -- Assumes nothing.
-use Prim.Native.Nat.{ℕ, zero, suc, ◌+◌, ◌-◌}
+use Prim.Native.Nat.{ℕ, zero, suc, ◌+◌}
 use native.Mathlib.Nat.{zero-add}
 use native.Mathlib.Omega.{arith}
 use mathlib.Core.Path.{◌≡◌, refl, ap, ◌∙◌}
 use mathlib.Core.List.{List}
-use lib.ListN.{length, drop, length-drop}
+use lib.ListN.{length, drop}
 use lib.Seq.{get_or-drop}
 use Rattle.box_number.specs.Number.{number, part}
 use Rattle.box_number.proofs.Numbers.{rest-is}
@@ -15,9 +15,6 @@ module _ (f : List ℕ) (k : ℕ) where
   pub rest-drop : part f k (length f) ≡ drop k f
   unfolding part
   rest-drop = rest-is f k
-
-  pub rest-length : length (part f k (length f)) ≡ length f - k
-  rest-length = ap length rest-drop ∙ length-drop k f
 
   number-drop : (at n : ℕ) → number (drop k f) at n ≡ number f (k + at) n
   unfolding number

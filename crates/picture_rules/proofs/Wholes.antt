@@ -1,17 +1,15 @@
 -- Reading and finishing in one step: what the answer of reading leads to, and the picture rule of the destinations.
 -- Assumes nothing.
 use Prim.Native.Nat.{ℕ}
-use native.Mathlib.Omega.{arith}
 use mathlib.Core.Path.{◌≡◌, refl, sym, ap, subst, ◌∙◌}
 use mathlib.Core.List.{List, [], ◌++◌}
 use lib.IntN.{ℤ}
 use lib.ListN.{length, drop}
+use Rattle.box_refusal.specs.Told.{Told, accepted, refused}
 use Rattle.read_record.specs.declared.Jp2.{Jp2}
-use Rattle.read_record.specs.Record.{blank}
-use Rattle.read_record.specs.Answer.{accepted, refused}
-use Rattle.read_rules.specs.declared.FileAnswer.TheVariants as answers
-use Rattle.read_rules.specs.declared.Reading.{Reading}
-use Rattle.read_rules.specs.File.{Walked, codestream, ended, file_refused, read, reading}
+use Rattle.read_rules.specs.declared.FileEnd.{FileEnd}
+use Rattle.read_rules.specs.declared.FileEnd.TheVariants.{Codestream, Ended}
+use Rattle.read_rules.specs.File.{file_refused, read, came_to}
 use Rattle.read_rules.specs.Alike.{given}
 use Rattle.picture_rules.specs.Image.{Image, image}
 use Rattle.picture_rules.specs.Finish.{Finishing, finished, declined, counted, finish}
@@ -23,36 +21,26 @@ use Rattle.picture_rules.specs.OrderFreedom.{with_file, AlikeButOrder, SameDesti
 use Rattle.picture_rules.proofs.Orders.{either_first}
 use Rattle.picture_rules.proofs.Destinations.{right-in-place, every-in-place, same-in-place}
 use Rattle.picture_rules.proofs.Demand3.{order_freedom}
-use Rattle.picture_rules.specs.declared.Finished.{Finished}
-use Rattle.picture_rules.specs.declared.Finished.TheVariants.{Planes, Refused}
 use Rattle.picture_rules.specs.Answers.{answered, fronted, records_after, samples_after, Done}
 use Rattle.picture_rules.specs.Met.{otherwise-turned, direct_file, direct_example, direct_planes, paletted_file, paletted, paletted_planes, opacity_file, listed_last, opacity_example, opacity_planes, Met}
 use Rattle.picture_rules.proofs.Mets.{direct_met, palette_met, opacity_met}
 use Rattle.picture_rules.specs.Whole.{pictured, PictureRight, PictureFilled, PictureOrderFree, ReadPicture, Speaks}
 
 -- a refusal leaves both destinations
-pub declined-done : (x : Finishing) {number place : ℕ} (records : List ℕ) (planes : List ℤ) → x ≡ declined number place → Done x (Refused number place) records records planes planes
+pub declined-done : (x : Finishing) {number place : ℕ} (records : List ℕ) (planes : List ℤ) → x ≡ declined number place → Done x (refused number place) records records planes planes
 unfolding answered records_after samples_after
 declined-done x records planes e = record { answer = rw e refl; numbers = rw e refl; samples = rw e refl }
 
--- an answer of reading tells what the file is read to
-told-refused : (w : Walked) {r : Reading} {number place : ℕ} → r ≡ reading blank w → r.answer ≡ answers.Refused number place → given w ≡ refused number place
-unfolding reading
-told-refused (codestream offset m) e d = let z : ◌≡◌ {A = ℕ} 0 1 = cc in absurd (omega arith)
-told-refused (ended m) e d = let z : ◌≡◌ {A = ℕ} 0 1 = cc in absurd (omega arith)
-told-refused (file_refused number place) e d = cc
-
-told-read : (w : Walked) {r : Reading} → r ≡ reading blank w → ((number place : ℕ) → r.answer ≡ answers.Refused number place → ⊥) → given w ≡ accepted r.jp2
-unfolding reading
-told-read (codestream offset m) e d = cc
-told-read (ended m) e d = cc
-told-read (file_refused number place) e d = absurd (d number place (ap (λ (x : Reading). x.answer) e))
+-- where a file ended says that it is read to a record
+given-came : (end : FileEnd) (m : Jp2) → given (came_to end m) ≡ accepted m
+given-came (Codestream offset) m = refl
+given-came Ended m = refl
 
 -- planes that are answered are those of a finished picture
-planes_of_lem : (x : Finishing) (n : ℕ) → answered x ≡ Planes n → (p : Image) × (x ≡ finished p) × (p.count ≡ n)
+planes_of_lem : (x : Finishing) (n : ℕ) → answered x ≡ accepted n → (p : Image) × (x ≡ finished p) × (p.count ≡ n)
 unfolding answered
 planes_of_lem (finished p) n e = (p, refl, cc)
-planes_of_lem (declined number place) n e = let z : ◌≡◌ {A = ℕ} 0 1 = cc in absurd (omega arith)
+planes_of_lem (declined number place) n e = absurd (cc)
 
 accepted_of : (h : Handed) (m : Jp2) (p : Image) → pictured h ≡ finished p → given (read h.file) ≡ accepted m → Accepted h m p
 unfolding pictured
@@ -63,47 +51,47 @@ unfolding pictured
 pictured_of h m p y = rw y.reading y.finishing
 
 -- the same number of planes is answered for a file that is alike in all but the order of definitions
-as_many : (h : Handed) (g : List ℕ) (m : Jp2) (n : ℕ) → AlikeButOrder h g m → answered (pictured h) ≡ Planes n → answered (pictured (with_file g h)) ≡ Planes n
+as_many : (h : Handed) (g : List ℕ) (m : Jp2) (n : ℕ) → AlikeButOrder h g m → answered (pictured h) ≡ accepted n → answered (pictured (with_file g h)) ≡ accepted n
 unfolding answered
 as_many h g m n o e =
     let (p, is, count) = planes_of_lem (pictured h) n e in
     let (k, q, y, same) = order_freedom.both h g m n o (m, p, accepted_of h m p is o.reads, count) in
-    ap answered (pictured_of (with_file g h) k q y) ∙ ap Planes same
+    ap answered (pictured_of (with_file g h) k q y) ∙ ap accepted same
 
 module _ (h : Handed) where
-  pub reading-refused : {r : Reading} {number place : ℕ} → r ≡ reading blank (read h.file) → r.answer ≡ answers.Refused number place → pictured h ≡ declined number place
+  pub reading-refused : {number place : ℕ} → file_refused number place ≡ read h.file → pictured h ≡ declined number place
   unfolding pictured
-  reading-refused e d = rw (told-refused (read h.file) e d)
+  reading-refused e = rw (← e)
 
-  pub reading-on : {r : Reading} → r ≡ reading blank (read h.file) → ((number place : ℕ) → r.answer ≡ answers.Refused number place → ⊥) → pictured h ≡ finish h r.jp2
+  pub reading-on : (end : FileEnd) (m : Jp2) → came_to end m ≡ read h.file → pictured h ≡ finish h m
   unfolding pictured
-  reading-on e d = rw (told-read (read h.file) e d)
+  reading-on end m e = rw (← e, given-came end m)
 
   -- what holds of every accepted picture, whatever follows it, holds of the destinations where planes are answered
   carried :
-      (x : Finishing) {r : Finished} (records : List ℕ) (planes : List ℤ) {records' : List ℕ} {planes' : List ℤ} → pictured h ≡ x → r ≡ answered x → records' ≡ records_after x records → planes' ≡ samples_after x planes →
-      (P : Image → Type 0) (m : Jp2) (n : ℕ) → given (read h.file) ≡ accepted m → r ≡ Planes n →
+      (x : Finishing) {r : Told ℕ} (records : List ℕ) (planes : List ℤ) {records' : List ℕ} {planes' : List ℤ} → pictured h ≡ x → r ≡ answered x → records' ≡ records_after x records → planes' ≡ samples_after x planes →
+      (P : Image → Type 0) (m : Jp2) (n : ℕ) → given (read h.file) ≡ accepted m → r ≡ accepted n →
       ((p : Image) → Accepted h m p → (d : List ℕ) (e : List ℤ) → P (image (p.components ++ d) p.count (p.samples ++ e))) → P (image records' n planes')
   unfolding answered records_after samples_after pictured
   carried (finished p) records planes is a u v P m n accepts e holds =
       let q : n ≡ p.count = cc in
       let f : finish h m ≡ finished p = rw accepts at is in
       rw (q, u, v) (holds p (record { reading = accepts; finishing = f }) (drop (length p.components) records) (drop (length p.samples) planes))
-  carried (declined number place) records planes is a u v P m n accepts e holds = let z : ◌≡◌ {A = ℕ} 0 1 = cc in absurd (omega arith)
+  carried (declined number place) records planes is a u v P m n accepts e holds = absurd (cc)
 
   -- demand 3, and what of it needs no premise
-  right : (x : Finishing) {r : Finished} (records : List ℕ) (planes : List ℤ) {records' : List ℕ} {planes' : List ℤ} → pictured h ≡ x → r ≡ answered x → records' ≡ records_after x records → planes' ≡ samples_after x planes → PictureRight h r records' planes'
+  right : (x : Finishing) {r : Told ℕ} (records : List ℕ) (planes : List ℤ) {records' : List ℕ} {planes' : List ℤ} → pictured h ≡ x → r ≡ answered x → records' ≡ records_after x records → planes' ≡ samples_after x planes → PictureRight h r records' planes'
   right x records planes is a u v m n accepts e defined clear = carried x records planes is a u v (RightPlanes h m) m n accepts e (λ p y d s. right-in-place h m p y defined clear d s)
 
-  every : (x : Finishing) {r : Finished} (records : List ℕ) (planes : List ℤ) {records' : List ℕ} {planes' : List ℤ} → pictured h ≡ x → r ≡ answered x → records' ≡ records_after x records → planes' ≡ samples_after x planes → PictureFilled h r records' planes'
+  every : (x : Finishing) {r : Told ℕ} (records : List ℕ) (planes : List ℤ) {records' : List ℕ} {planes' : List ℤ} → pictured h ≡ x → r ≡ answered x → records' ≡ records_after x records → planes' ≡ samples_after x planes → PictureFilled h r records' planes'
   every x records planes is a u v m n accepts e = carried x records planes is a u v (EveryPlane h (counted h.settings m)) m n accepts e (λ p y d s. every-in-place h m p y d s)
 
-  free : {r : Finished} (records : List ℕ) (planes : List ℤ) {records' : List ℕ} {planes' : List ℤ} → Done (pictured h) r records records' planes planes' → PictureOrderFree h r records' planes planes'
+  free : {r : Told ℕ} (records : List ℕ) (planes : List ℤ) {records' : List ℕ} {planes' : List ℤ} → Done (pictured h) r records records' planes planes' → PictureOrderFree h r records' planes planes'
   unfolding records_after samples_after
   free {r} records planes {records'} {planes'} x g m o other others others' pixels pixels' y = (
     (λ n. ((λ e. y.answer ∙ as_many h g m n o (sym x.answer ∙ e)), λ e. x.answer ∙ as_many (with_file g h) h.file m n (either_first h g m o) (sym y.answer ∙ e))),
     λ n e defined clear.
-        let answers : answered (pictured h) ≡ Planes n = sym x.answer ∙ e in
+        let answers : answered (pictured h) ≡ accepted n = sym x.answer ∙ e in
         let (p, here, count) = planes_of_lem (pictured h) n answers in
         let (q, there, _) = planes_of_lem (pictured (with_file g h)) n (as_many h g m n o answers) in
         let same = same-in-place h g m p q o (accepted_of h m p here o.reads) (accepted_of (with_file g h) m q there (either_first h g m o).reads) defined clear records others planes pixels in
@@ -115,7 +103,7 @@ module _ (h : Handed) where
   )
 
   -- the whole promise
-  pub shows : (x : Finishing) {r : Finished} (records : List ℕ) (planes : List ℤ) {records' : List ℕ} {planes' : List ℤ} → pictured h ≡ x → Done x r records records' planes planes' → ReadPicture h r records records' planes planes'
+  pub shows : (x : Finishing) {r : Told ℕ} (records : List ℕ) (planes : List ℤ) {records' : List ℕ} {planes' : List ℤ} → pictured h ≡ x → Done x r records records' planes planes' → ReadPicture h r records records' planes planes'
   shows x {r} records planes {records'} {planes'} is d =
       let done : Done (pictured h) r records records' planes planes' = rw is d in
       record {
@@ -127,7 +115,7 @@ module _ (h : Handed) where
         };
       }
 
-  pub shows-refused : {number place : ℕ} (records : List ℕ) (planes : List ℤ) → pictured h ≡ declined number place → ReadPicture h (Refused number place) records records planes planes
+  pub shows-refused : {number place : ℕ} (records : List ℕ) (planes : List ℤ) → pictured h ≡ declined number place → ReadPicture h (refused number place) records records planes planes
   shows-refused {number} {place} records planes is = shows (declined number place) records planes is (declined-done (declined number place) records planes refl)
 
 -- the rules in the promise are not empty ones: with a palette and without, their premises are met

@@ -1,15 +1,14 @@
 -- What finishing a picture answers, and what it leaves in the two destinations.
 use Rattle.std.specs.Prelude.{ℕ, ◌≤◌, ◌<◌, ◌≡◌, List, ℤ, pos, length, get_or}
+use Rattle.box_refusal.specs.Told.{Told, accepted, refused}
 use Rattle.picture_rules.specs.Image.{Image}
 pub use Rattle.picture_rules.specs.Image.{fronted}
 use Rattle.picture_rules.specs.Finish.{Finishing, finished, declined}
-use Rattle.picture_rules.specs.declared.Finished.{Finished}
-use Rattle.picture_rules.specs.declared.Finished.TheVariants.{Planes, Refused}
 
 -- how many planes, or document 01's number with its index or needed length
-unfoldable pub answered : Finishing → Finished
-answered (finished planes) = Planes planes.count
-answered (declined number place) = Refused number place
+unfoldable pub answered : Finishing → Told ℕ
+answered (finished planes) = accepted planes.count
+answered (declined number place) = refused number place
 
 -- the numbers of the records; a refusal changes none
 unfoldable pub records_after : Finishing → List ℕ → List ℕ
@@ -22,7 +21,7 @@ samples_after (finished planes) d = fronted planes.samples d
 samples_after (declined number place) d = d
 
 -- a finishing x is answered by r, and leaves records' and planes' where the destinations were records and planes
-pub record Done (x : Finishing) (r : Finished) (records records' : List ℕ) (planes planes' : List ℤ) : Type 0 where
+pub record Done (x : Finishing) (r : Told ℕ) (records records' : List ℕ) (planes planes' : List ℤ) : Type 0 where
   pub answer : r ≡ answered x
   pub numbers : records' ≡ records_after x records
   pub samples : planes' ≡ samples_after x planes

@@ -5,15 +5,9 @@
 
 // What finishing is told beside the picture. ignore: with any number but 0 palette, mappings and definitions count for nothing.
 // edition2 picks the edition of the camera rules: 0 is edition 1, the crate's behaviour, and any other number edition 2.
+// Both are numbers, as C passes them: a narrower type would ask more of callers.
 #[derive(Clone, Copy)]
 pub struct Settings {
     pub ignore: u32,
     pub edition2: u32,
-}
-
-// What finishing answers: how many planes there are; or document 01's number, with the index or the needed length.
-#[derive(Clone, Copy)]
-pub enum Finished {
-    Planes(u32),
-    Refused(u32, u64),
 }

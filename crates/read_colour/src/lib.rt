@@ -1,12 +1,13 @@
 // The colour specification box (I.5.3.3).
-// Every reader of a box has this signature: the box's content, the place where the box starts, where its content starts, and the record before it.
+// Every reader of a box has this signature: the box's content, where the box and its content start, and the record before it.
 #![tactic(auto)]
 
 ghost use Rattle.std.specs.Prelude.{◌≡◌};
-ghost use Rattle.read_record.specs.Answer.{answer};
+ghost use Rattle.read_record.specs.Answer.{told};
 ghost use Rattle.read_colour.specs.Colr.{lab, colr};
 
-use read_record::{Jp2, Lab, Outcome, Span};
+use box_refusal::{Cause, Refusal};
+use read_record::{At, Jp2, Lab, NO_LAB, NO_LIST, Span};
 
 // METH: an enumerated colour space, an ICC profile.
 const ENUMERATED: u32 = 1;
@@ -57,58 +58,44 @@ fn read_lab(c: &[u8]) -> Lab
 }
 
 // The crate has one slot for CIELab and the profile, so that each clears the other.
-pub fn opj_jp2_read_colr(c: &[u8], place: u32, start: u32, j: Jp2) -> Outcome
-    ensures { result ≡ answer j (colr place start c.now j) }
+pub fn opj_jp2_read_colr(c: &[u8], at: At, j: Jp2) -> Result<Jp2, Refusal<u32>>
+    ensures { told result ≡ colr at.place at.start c.now j }
 {
     let n = c.len();
     if n < FIELDS_BYTES {
-        return Outcome::refused(16, place, j);
+        return Err(at.refused(Cause::ColourTooShort));
     }
-    let mut colour = j.colour;
-    if colour.held != 0 {
-        return Outcome::done(j);
+    if j.colour.held != 0 {
+        return Ok(j);
     }
-    colour.meth = box_number::read_u8(c, 0) as u32;
-    colour.precedence = box_number::read_u8(c, 1) as u32;
-    colour.approx = box_number::read_u8(c, 2) as u32;
     let mut k = j;
-    if colour.meth == ENUMERATED {
-        if n < ENUMERATED_BYTES {
-            return Outcome::refused(16, place, j);
+    k.colour.meth = box_number::read_u8(c, 0) as u32;
+    k.colour.precedence = box_number::read_u8(c, 1) as u32;
+    k.colour.approx = box_number::read_u8(c, 2) as u32;
+    match k.colour.meth {
+        ENUMERATED => {
+            if n < ENUMERATED_BYTES {
+                return Err(at.refused(Cause::ColourTooShort));
+            }
+            k.colour.enumcs = box_number::read_u32(c, 3);
+            k.colour.held = 1;
+            if k.colour.enumcs == CIELAB {
+                k.colour.lab = read_lab(c);
+                k.lists.icc = NO_LIST;
+                return Ok(k);
+            }
+            Ok(k)
         }
-        colour.enumcs = box_number::read_u32(c, 3);
-        colour.held = 1;
-        if colour.enumcs == CIELAB {
-            let lab = read_lab(c);
-            let none = Span { place: 0, count: 0 };
-            let mut lists = j.lists;
-            lists.icc = none;
-            colour.lab = lab;
-            k.colour = colour;
-            k.lists = lists;
-            return Outcome::done(k);
+        PROFILE => {
+            k.colour.lab = NO_LAB;
+            k.colour.held = 1;
+            k.lists.icc = Span {
+                place: at.start as usize + FIELDS_BYTES,
+                count: n - FIELDS_BYTES,
+            };
+            Ok(k)
         }
-        k.colour = colour;
-        return Outcome::done(k);
+        // METH 0 or above 2: the three fields, and no colour is held.
+        _ => Ok(k),
     }
-    if colour.meth == PROFILE {
-        let icc = Span {
-            place: start as usize + FIELDS_BYTES,
-            count: n - FIELDS_BYTES,
-        };
-        let none = Lab {
-            numbers: [0, 0, 0, 0, 0, 0, 0, 0, 0],
-            count: 0,
-        };
-        let mut lists = j.lists;
-        lists.icc = icc;
-        colour.lab = none;
-        colour.held = 1;
-        k.colour = colour;
-        k.lists = lists;
-        return Outcome::done(k);
-    }
-    // METH 0 or above 2: the three fields, and no colour is held.
-    k.colour = colour;
-    Outcome::done(k)
 }

@@ -1,49 +1,34 @@
 -- One turn of the walk: what the file has at c decides how its boxes run.
 -- Assumes nothing.
-use Prim.Native.Nat.{ℕ, ◌+◌, ◌≤◌, ◌<◌}
+use Prim.Native.Nat.{ℕ, ◌+◌, ◌≤◌}
 use native.Mathlib.Omega.{arith}
 use mathlib.Core.Path.{◌≡◌, refl, sym, ap, subst, ◌∙◌}
 use mathlib.Core.Bool.{true, false}
 use mathlib.Core.List.{List}
+use Rattle.std.specs.Prelude.{Option, Some}
+use Rattle.std.specs.Prelude as std
 use lib.ListN.{length, drop}
 use Rattle.box_number.specs.Number.{part}
-use Rattle.box_number.specs.Table.{◌or◌, holds}
+use Rattle.box_number.specs.Table.{◌=?◌, ◌or◌, holds}
 use Rattle.box_number.proofs.Rows.{Says, row, each, either, said, not_both}
+use Rattle.box_number.proofs.Indices.{decide}
 use Rattle.box_kind.specs.Kind.{kind_of, tag, ◌is◌, is_image_header}
 use Rattle.box_header.specs.declared.Jp2BoxHeader.{Jp2BoxHeader}
+use Rattle.box_header.proofs.Headers.{header-least}
 use Rattle.box_header.specs.Box.{largest, length_of_header, box_length, header_of}
 use Rattle.box_kind.specs.declared.Jp2BoxType.{Jp2BoxType}
 use Rattle.box_kind.specs.declared.Jp2BoxType.TheVariants.{None, JPIP, JP, FTYP, JP2H, IHDR, COLR, JP2C, URL, PCLR, CMAP, CDEF, DTBL, BPCC, JP2, RES, JP2I, XML, UUID, UINF, Unknown}
 use mathlib.Core.Logic.{◌⊎◌, ⊎_elim}
 use Rattle.read_record.specs.declared.Jp2.{Jp2}
-use Rattle.read_record.specs.declared.Outcome.{Outcome}
-use Rattle.read_record.specs.Answer.{Result, accepted, refused, answer}
+use Rattle.read_record.specs.Answer.{Result}
 use Rattle.read_jp2h.specs.Split.{first_box, boxes}
 use Rattle.read_jp2h.specs.HeaderBox.{header_box}
 use Rattle.read_jp2h.proofs.Ways.{box-child, box-jp2h}
-use Rattle.read_rules.specs.declared.Reading.{Reading}
-use Rattle.read_rules.proofs.Headers.{run-missing, run-there}
+use Rattle.read_rules.proofs.Headers.{run_none, run-missing, run-there}
 use Rattle.read_file.specs.declared.Found.{Found}
-use Rattle.read_file.specs.declared.Found.TheVariants.{Nothing, Codestream, Short, Past, Whole}
-use Rattle.read_rules.specs.File.{Walked, ended, file_refused, then_walk, stream, other, is_read, past_end, outer, run, reading}
+use Rattle.read_file.specs.declared.Found.TheVariants.{Codestream, Short, Past, Whole}
+use Rattle.read_rules.specs.File.{Walked, ended, file_refused, then_walk, stream, other, is_read, past_end, outer, run}
 use Rattle.read_file.specs.Private.Turn.{found, Heads, box_with, box_at, is_early, header_or_skipped}
-
--- what was answered is what the definition says; where the file has ended, whatever the record before it
-pub gives : (j : Jp2) (w v : Walked) {r : Reading} → r ≡ reading j w → w ≡ v → r ≡ reading j v
-gives j w v e f = e ∙ ap (reading j) f
-
-pub gives_end : (j k : Jp2) (v : Walked) {r : Reading} → r ≡ reading k (ended k) → ended k ≡ v → r ≡ reading j v
-unfolding reading
-gives_end j k v e f = e ∙ ap (reading j) f
-
--- what was answered is what the definition says, and the record after a refusal may be any
-pub freed : (k : Jp2) (x y : Result) {r : Outcome} → r ≡ answer k x → x ≡ y → r ≡ answer r.jp2 y
-unfolding answer
-freed k x y e f = free y (e ∙ ap (answer k) f)
-  where
-    free : (y : Result) {r : Outcome} → r ≡ answer k y → r ≡ answer r.jp2 y
-    free (accepted m) e = e
-    free (refused n p) e = e ∙ ap (λ (j : Jp2). answer j (refused n p)) (sym (ap (λ (o : Outcome). o.jp2) e))
 
 stream_no : (k : Jp2BoxType) → (k ≡ JP2C → ⊥) → false ≡ holds (k is JP2C)
 stream_no None h = refl
@@ -153,30 +138,27 @@ outer-other kind place start c k h =
     let n = not_read kind h in
     row 5 _ (n.0.0, (n.0.1.0, (n.0.1.1, ((λ i. absurd (not_both (is_image_header kind) i n.1)), (n.1, tt))))) refl
 
-module _ (at : ℕ) (c : List ℕ) (k : Jp2) (some : 0 < length c) where
+module _ (at : ℕ) (c : List ℕ) (k : Jp2) where
   -- the boxes of c run to w
   abbrev Runs : Walked → Type 0
   Runs w = run (boxes at c) k ≡ w
 
-  not_none : length c ≡ 0 → ⊥
-  not_none z = omega arith
-
   -- what the file has at c decides how the boxes of c run
-  abbrev pub Tells : Found → Type 0
-  Tells Nothing = Runs (ended k)
-  Tells (Codestream m) = (m ≤ length c) × Runs (stream (box_at JP2C at (at + m)) k)
-  Tells Short = Runs (file_refused 3 at)
-  Tells (Past h) = Runs (past_end (box_at h.ty at 0) k)
-  Tells (Whole h) = (h ≡ header_of c) × (length_of_header c ≤ box_length c) × (box_length c ≤ length c) × Runs (then_walk (outer (first_box at c) k) (λ m. run (boxes (at + box_length c) (drop (box_length c) c)) m))
+  abbrev pub Tells : Option Found → Type 0
+  Tells std.None = Runs (ended k)
+  Tells (Some (Codestream m)) = (m ≤ length c) × Runs (stream (box_at JP2C at (at + m)) k)
+  Tells (Some Short) = Runs (file_refused 3 at)
+  Tells (Some (Past h)) = Runs (past_end (box_at h.ty at 0) k)
+  Tells (Some (Whole h)) = (h ≡ header_of c) × (length_of_header c ≤ box_length c) × (box_length c ≤ length c) × Runs (then_walk (outer (first_box at c) k) (λ m. run (boxes (at + box_length c) (drop (box_length c) c)) m))
 
-  pub found-tells : {r f : Found} → r ≡ found c → r ≡ f → Tells f
+  pub found-tells : {r f : Option Found} → r ≡ found c → r ≡ f → Tells f
   unfolding found
   found-tells e f =
       subst Tells (sym e ∙ f)
       (each Tells _ (
-        (λ h. run-missing at c k not_none h),
+        (λ h. decide (length c =? 0) (λ z. run_none at c k z) (λ z. run-missing at c k z h)),
         λ h.
-            let there = run-there at c k not_none h.0 h.1 in (
+            let there = run-there at c k (λ z. omega (arith, header-least c)) h.0 h.1 in (
               (λ t. (h.0, there ∙ sym (row 0 _ t refl))),
               λ t. (
                 (λ s. there ∙ sym (row 1 _ (t, s) refl)),

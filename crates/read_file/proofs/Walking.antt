@@ -2,8 +2,9 @@
 -- Assumes nothing.
 use Prim.Native.Nat.{ℕ, ◌+◌, ◌-◌, ◌≤◌, ◌<◌}
 use native.Mathlib.Omega.{arith}
-use mathlib.Core.Path.{◌≡◌, refl, sym, ◌∙◌}
+use mathlib.Core.Path.{◌≡◌, refl, sym, ap, ◌∙◌}
 use mathlib.Core.List.{List}
+use Rattle.std.specs.Prelude.{Option, Some, None}
 use lib.ListN.{length, take, drop, length-drop}
 use Rattle.box_number.proofs.Rows.{row}
 use Rattle.box_number.proofs.Numbers.{rest-is}
@@ -12,17 +13,13 @@ use Rattle.box_header.specs.Box.{largest}
 use Rattle.box_header.specs.declared.Jp2BoxHeader.{Jp2BoxHeader}
 use Rattle.box_kind.specs.declared.Jp2BoxType.TheVariants.{JP2C}
 use Rattle.read_record.specs.declared.Jp2.{Jp2}
-use Rattle.read_record.specs.declared.Outcome.{Outcome}
-use Rattle.read_record.specs.declared.Answer.TheVariants.{Done, Refused}
-use Rattle.read_record.specs.Answer.{answer}
-use Rattle.read_record.proofs.Told.{answer-done, answer-refused}
+use Rattle.read_record.specs.Answer.{accepted, refused}
 use Rattle.read_jp2h.specs.Split.{first_box, boxes}
 use Rattle.read_file.specs.declared.Found.{Found}
-use Rattle.read_file.specs.declared.Found.TheVariants.{Nothing, Codestream, Short, Past, Whole}
+use Rattle.read_file.specs.declared.Found.TheVariants.{Codestream, Short, Past, Whole}
 use Rattle.read_rules.specs.File.{Walked, ended, file_refused, stream, past_end, outer, run, walk}
-use Rattle.read_rules.proofs.Headers.{run_none}
 use Rattle.read_file.specs.Private.Turn.{found, Heads, box_at}
-use Rattle.read_file.proofs.Turns.{heads_long, found-tells}
+use Rattle.read_file.proofs.Turns.{heads_long, Tells, found-tells}
 
 -- c, at a place of the file, is what is left: run from the record k its result is w
 pub record Going (w : Walked) (at : ℕ) (c : List ℕ) (k : Jp2) : Type 0 where
@@ -32,33 +29,33 @@ pub record Going (w : Walked) (at : ℕ) (c : List ℕ) (k : Jp2) : Type 0 where
 pub going_start : (f : List ℕ) (j : Jp2) → length f ≤ largest → Going (run (boxes 0 f) j) 0 f j
 going_start f j h = record { room = omega arith; same = refl }
 
-module _ {w : Walked} {at : ℕ} {c : List ℕ} {k : Jp2} (g : Going w at c k) where
+module _ {w : Walked} {at : ℕ} {c : List ℕ} {k : Jp2} (going : Going w at c k) where
   -- the result of the walk is that of the boxes of c
   runs_to : {v : Walked} → run (boxes at c) k ≡ v → v ≡ w
-  runs_to h = sym h ∙ g.same
+  runs_to h = sym h ∙ going.same
 
-  pub going_end : length c ≡ 0 → ended k ≡ w
-  going_end z = runs_to (run_none at c k z)
+  module _ {r : Option Found} (e : r ≡ found c) where
+    pub going_none : r ≡ None → ended k ≡ w
+    going_none f = runs_to (found-tells at c k e f)
 
-  module _ (some : 0 < length c) {r : Found} (e : r ≡ found c) where
-    pub going_none : r ≡ Nothing → ended k ≡ w
-    going_none f = runs_to (found-tells at c k some e f)
+    tells : {g f : Found} → r ≡ Some g → g ≡ f → Tells at c k (Some f)
+    tells s f = found-tells at c k e (s ∙ ap Some f)
 
-    pub going_header : {m : ℕ} → r ≡ Codestream m → m ≤ length c
-    going_header f = (found-tells at c k some e f).0
+    pub going_header : {g : Found} {m : ℕ} → r ≡ Some g → g ≡ Codestream m → m ≤ length c
+    going_header s f = (tells s f).0
 
-    pub going_stream : {m : ℕ} → r ≡ Codestream m → stream (box_at JP2C at (at + m)) k ≡ w
-    going_stream f = runs_to (found-tells at c k some e f).1
+    pub going_stream : {g : Found} {m : ℕ} → r ≡ Some g → g ≡ Codestream m → stream (box_at JP2C at (at + m)) k ≡ w
+    going_stream s f = runs_to (tells s f).1
 
-    pub going_short : r ≡ Short → file_refused 3 at ≡ w
-    going_short f = runs_to (found-tells at c k some e f)
+    pub going_short : {g : Found} → r ≡ Some g → g ≡ Short → file_refused 3 at ≡ w
+    going_short s f = runs_to (tells s f)
 
-    pub going_past : {h : Jp2BoxHeader} → r ≡ Past h → past_end (box_at h.ty at 0) k ≡ w
-    going_past f = runs_to (found-tells at c k some e f)
+    pub going_past : {g : Found} {h : Jp2BoxHeader} → r ≡ Some g → g ≡ Past h → past_end (box_at h.ty at 0) k ≡ w
+    going_past s f = runs_to (tells s f)
 
-    module _ {h : Jp2BoxHeader} (f : r ≡ Whole h) where
+    module _ {g : Found} {h : Jp2BoxHeader} (s : r ≡ Some g) (f : g ≡ Whole h) where
       pub going_heads : Heads at c h
-      going_heads = let t = found-tells at c k some e f in record { same = t.0; least = t.1; most = t.2; room = g.room }
+      going_heads = let t = tells s f in record { same = t.0; least = t.1; most = t.2; room = going.room }
 
       pub going_fits : (8 ≤ h.length) × (h.length ≤ length c)
       going_fits = let p = going_heads in omega (arith, header-least c, heads_long p, p.least, p.most)
@@ -67,21 +64,20 @@ module _ {w : Walked} {at : ℕ} {c : List ℕ} {k : Jp2} (g : Going w at c k) w
       pub going_less : {n : ℕ} → n ≡ 0 + h.length → length (take (length c - n) (drop n c)) < length c
       going_less {n} z = let q = going_fits in rw (rest-is c n, length-drop) (omega arith)
 
-      module _ {o : Outcome} (d : o ≡ answer o.jp2 (outer (first_box at c) k)) where
-        pub going_down : {n p : ℕ} → o.answer ≡ Refused n p → file_refused n p ≡ w
-        going_down a = runs_to ((found-tells at c k some e f).3 ∙ rw (answer-refused o.jp2 (outer (first_box at c) k) d a))
+      pub going_down : {number place : ℕ} → refused number place ≡ outer (first_box at c) k → file_refused number place ≡ w
+      going_down d = runs_to ((tells s f).3 ∙ rw (sym d))
 
-        pub going_on : {n i : ℕ} → o.answer ≡ Done → n ≡ 0 + h.length → i ≡ at + h.length → Going w i (take (length c - n) (drop n c)) o.jp2
-        going_on {n} {i} a m p =
-            let z : n ≡ h.length = omega arith in
-            let q = going_fits in
-            rw (rest-is c n, z, p)
-            (record {
-              room = rw length-drop (omega (arith, g.room));
-              same = rw (heads_long going_heads) (rw (answer-done o.jp2 (outer (first_box at c) k) d a) at (sym (found-tells at c k some e f).3 ∙ g.same));
-            })
+      pub going_on : {m : Jp2} {n i : ℕ} → accepted m ≡ outer (first_box at c) k → n ≡ 0 + h.length → i ≡ at + h.length → Going w i (take (length c - n) (drop n c)) m
+      going_on {m} {n} {i} d q p =
+          let z : n ≡ h.length = omega arith in
+          let y = going_fits in
+          rw (rest-is c n, z, p)
+          (record {
+            room = rw length-drop (omega (arith, going.room));
+            same = rw (heads_long going_heads) (rw (sym d) at (sym (tells s f).3 ∙ going.same));
+          })
 
--- the ways through the walk
-pub walked : (f : List ℕ) (j : Jp2) {w : Walked} → length f ≤ largest → w ≡ run (boxes 0 f) j → w ≡ walk f j
+-- the way through the walk
+pub walks : (f : List ℕ) (j : Jp2) {w : Walked} → length f ≤ largest → w ≡ run (boxes 0 f) j → w ≡ walk f j
 unfolding walk
-walked f j h e = row 1 _ (h, tt) e
+walks f j h e = row 1 _ (h, tt) e

@@ -2,48 +2,48 @@
 -- Assumes nothing.
 use Prim.Native.Nat.{ℕ, zero, suc, ◌+◌, ◌≤◌, ◌<◌}
 use native.Mathlib.Omega.{arith}
-use mathlib.Core.Path.{◌≡◌, refl, sym, ap, subst, ◌∙◌}
+use mathlib.Core.Path.{◌≡◌, refl, sym, ap, subst}
 use mathlib.Core.List.{List}
 use lib.ListN.{length, drop}
 use Rattle.box_number.proofs.Rows.{row, each}
 use Rattle.box_header.specs.Box.{LBox, length_of_header, box_length, header_of}
 use Rattle.box_header.specs.declared.Jp2BoxHeader.{Jp2BoxHeader}
 use Rattle.read_record.specs.declared.Jp2.{Jp2}
-use Rattle.read_record.specs.Answer.{refused}
+use Rattle.read_record.specs.Answer.{Result, refused}
 use Rattle.read_jp2h.specs.Split.{Boxes, no_bytes, ◌▸◌, first_box, split}
 use Rattle.read_jp2h.specs.Jp2h.{read_all}
 use Rattle.read_jp2h.specs.Private.Step.{fault, first_item, next_child}
 use Rattle.read_jp2h.specs.declared.Item.{Item}
-use Rattle.read_jp2h.specs.declared.Next.{Next}
-use Rattle.read_jp2h.specs.declared.Next.TheVariants.{Nothing, Fault, Found}
+use Rattle.std.specs.Prelude.{Option, Some, None}
+use Rattle.box_refusal.specs.Told.{Told, accepted}
 
 module _ (at : ℕ) (c : List ℕ) where
   -- the box of a header
   abbrev item_of : Jp2BoxHeader → Item
   item_of h = record { place = at; header = h }
 
-  pub next-none : length c ≡ 0 → Nothing ≡ next_child at c
+  pub next-none : length c ≡ 0 → accepted None ≡ next_child at c
   unfolding next_child
   next-none h = row 0 _ h refl
 
   module _ (some : length c ≡ 0 → ⊥) where
-    pub next-fault : (n : ℕ) → fault c ≡ n → 0 < n → Fault n ≡ next_child at c
+    pub next-fault : (n : ℕ) → fault c ≡ n → 0 < n → refused n at ≡ next_child at c
     unfolding next_child
-    next-fault n e h = row 1 _ (some, omega arith) (ap Fault (sym e))
+    next-fault n e h = row 1 _ (some, omega arith) (ap (λ m. refused m at) (sym e))
 
-    pub next-found : {h : Jp2BoxHeader} → h ≡ header_of c → fault c ≡ 0 → Found (item_of h) ≡ next_child at c
+    pub next-found : {h : Jp2BoxHeader} → h ≡ header_of c → fault c ≡ 0 → accepted (Some (item_of h)) ≡ next_child at c
     unfolding next_child
-    next-found e z = row 2 _ (some, (z, tt)) (ap (λ (h : Jp2BoxHeader). Found (item_of h)) e)
+    next-found e z = row 2 _ (some, (z, tt)) (ap (λ (h : Jp2BoxHeader). accepted (Some (item_of h))) e)
 
   -- and back: the fault, by what was found
-  abbrev Tells : Next → Type 0
-  Tells Nothing = length c ≡ 0
-  Tells (Fault n) = (0 < length c) × (n ≡ fault c) × (fault c ≡ 0 → ⊥)
-  Tells (Found b) = (0 < length c) × (b ≡ first_item at c) × (fault c ≡ 0)
+  abbrev Tells : Told (Option Item) → Type 0
+  Tells (accepted None) = length c ≡ 0
+  Tells (refused n p) = (0 < length c) × (n ≡ fault c) × (p ≡ at) × (fault c ≡ 0 → ⊥)
+  Tells (accepted (Some b)) = (0 < length c) × (b ≡ first_item at c) × (fault c ≡ 0)
 
-  pub next-tells : {r l : Next} → r ≡ next_child at c → r ≡ l → Tells l
+  pub next-tells : {l : Told (Option Item)} → l ≡ next_child at c → Tells l
   unfolding next_child
-  next-tells e f = subst Tells (sym e ∙ f) (each Tells _ ((λ h. h), λ s. ((λ h. (omega arith, refl, h)), λ h. (omega arith, refl, h))))
+  next-tells e = subst Tells (sym e) (each Tells _ ((λ h. h), λ s. ((λ h. (omega arith, refl, refl, h)), λ h. (omega arith, refl, h))))
 
 module _ (c : List ℕ) where
   pub fault_10 : (length_of_header c ≤ length c → (LBox c ≡ 0 → ⊥) → 4294967295 < box_length c) → fault c ≡ 10
@@ -106,8 +106,8 @@ module _ (at : ℕ) (c : List ℕ) where
         ),
       )
     where
-      ten : (length_of_header c ≤ length c → (LBox c ≡ 0 → ⊥) → 4294967295 < box_length c) → refused 10 at ≡ refused (fault c) at
+      ten : (length_of_header c ≤ length c → (LBox c ≡ 0 → ⊥) → 4294967295 < box_length c) → ◌≡◌ {A = Result} (refused 10 at) (refused (fault c) at)
       ten h = ap (λ (m : ℕ). refused m at) (sym (fault_10 c h))
 
-      eleven : fault c ≡ 11 → refused 11 at ≡ refused (fault c) at
+      eleven : fault c ≡ 11 → ◌≡◌ {A = Result} (refused 11 at) (refused (fault c) at)
       eleven e = ap (λ (m : ℕ). refused m at) (sym e)

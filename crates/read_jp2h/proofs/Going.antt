@@ -16,13 +16,10 @@ use Rattle.box_kind.specs.declared.Jp2BoxType.{Jp2BoxType}
 use Rattle.box_kind.specs.declared.Jp2BoxType.TheVariants.{IHDR}
 use Rattle.box_header.proofs.Headers.{header-least}
 use Rattle.read_record.specs.declared.Jp2.{Jp2}
-use Rattle.read_record.specs.declared.Outcome.{Outcome}
-use Rattle.read_record.specs.declared.Answer.TheVariants.{Done, Refused}
-use Rattle.read_record.specs.Answer.{Result, accepted, refused, answer}
-use Rattle.read_record.proofs.Told.{answer-done, answer-refused}
+use Rattle.std.specs.Prelude.{Option, Some, None}
+use Rattle.box_refusal.specs.Told.{Told}
+use Rattle.read_record.specs.Answer.{Result, accepted, refused}
 use Rattle.read_jp2h.specs.declared.Item.{Item}
-use Rattle.read_jp2h.specs.declared.Next.{Next}
-use Rattle.read_jp2h.specs.declared.Next.TheVariants.{Nothing, Fault, Found}
 use Rattle.read_jp2h.specs.Split.{split}
 use Rattle.read_jp2h.specs.Child.{reader}
 use Rattle.read_jp2h.specs.Jp2h.{read_all, lacks_ihdr}
@@ -64,11 +61,30 @@ part-all : (c : List ℕ) → part c 0 (length c) ≡ c
 unfolding part
 part-all c = take_all (length c - 0) c (omega arith)
 
+-- an answer that is accepted, and one that has no box
+abbrev Accepts : {A : Type 0} → Told A → Type 0
+Accepts (accepted a) = Unit
+Accepts (refused n p) = ⊥
+
+abbrev NoItem : Told (Option Item) → Type 0
+NoItem (accepted None) = Unit
+NoItem (accepted (Some b)) = ⊥
+NoItem (refused n p) = ⊥
+
+-- the box that was found
+abbrev item_or : Item → Told (Option Item) → Item
+item_or d (accepted None) = d
+item_or d (accepted (Some b)) = b
+item_or d (refused n p) = d
+
+item-is : {b d : Item} → ◌≡◌ {A = Told (Option Item)} (accepted (Some b)) (accepted (Some d)) → b ≡ d
+item-is {b} e = ap (item_or b) e
+
 module _ {kind : Jp2BoxType} {place : ℕ} {w : Result} {l : Bool} {at : ℕ} {c : List ℕ} {lacks : Bool} {k : Jp2} where
-  pub going_end : (lone : Bool) → Going kind place w l lone at c lacks k → {r : Next} → r ≡ next lone kind place at c → r ≡ Nothing → (w ≡ accepted k) × (l ≡ lacks)
+  pub going_end : (lone : Bool) → Going kind place w l lone at c lacks k → accepted None ≡ next lone kind place at c → (w ≡ accepted k) × (l ≡ lacks)
   unfolding read_all lacks_ihdr
-  going_end true g e f = let z : ◌≡◌ {A = ℕ} 0 1 = cc in absurd (omega arith)
-  going_end false g e f = let z = next-tells at c e f in (sym g.left.0 ∙ rw (split-none at c g.fuel z), sym g.left.1 ∙ rw (split-none at c g.fuel z))
+  going_end true g e = absurd (subst NoItem e tt)
+  going_end false g e = let z = next-tells at c e in (sym g.left.0 ∙ rw (split-none at c g.fuel z), sym g.left.1 ∙ rw (split-none at c g.fuel z))
 
   -- with one more of the fuel
   with-fuel : {lone : Bool} → 0 < length c → (g : Going kind place w l lone at c lacks k) → (P : ℕ → Type 0) → ((n : ℕ) → P (suc n)) → P g.fuel
@@ -78,11 +94,11 @@ module _ {kind : Jp2BoxType} {place : ℕ} {w : Result} {l : Bool} {at : ℕ} {c
       go zero l = absurd (omega arith)
       go (suc n) l = h n
 
-  pub going_fault : (lone : Bool) → Going kind place w l lone at c lacks k → {r : Next} {n : ℕ} → r ≡ next lone kind place at c → r ≡ Fault n → w ≡ refused n at
-  going_fault true g e f = let z : ◌≡◌ {A = ℕ} 0 1 = cc in absurd (omega arith)
-  going_fault false g {r} {n} e f =
-      let t = next-tells at c e f in
-      with-fuel t.0 g (λ (m : ℕ). read_all (split m at c) k ≡ w → w ≡ refused n at) (λ m s. sym s ∙ split-fault at c m k t.0 t.2 ∙ ap (λ (x : ℕ). refused x at) (sym t.1)) g.left.0
+  pub going_fault : (lone : Bool) → Going kind place w l lone at c lacks k → {n p : ℕ} → refused n p ≡ next lone kind place at c → refused n p ≡ w
+  going_fault true g e = absurd (subst Accepts (sym e) tt)
+  going_fault false g {n} {p} e =
+      let t = next-tells at c e in
+      with-fuel t.0 g (λ (m : ℕ). read_all (split m at c) k ≡ w → refused n p ≡ w) (λ m s. rw (t.1, t.2) (sym (split-fault at c m k t.0 t.3) ∙ s)) g.left.0
 
   here_lone : Going kind place w l true at c lacks k → Here kind place w l at c lacks k (lone_item kind place c)
   unfolding split read_all lacks_ihdr
@@ -120,29 +136,26 @@ module _ {kind : Jp2BoxType} {place : ℕ} {w : Result} {l : Bool} {at : ℕ} {c
             }) g.enough g.left.0 g.left.1;
       }
 
-  pub here : (lone : Bool) → Going kind place w l lone at c lacks k → {r : Next} {b : Item} → r ≡ next lone kind place at c → r ≡ Found b → Here kind place w l at c lacks k b
-  here true g {r} {b} e f =
-      let q : lone_item kind place c ≡ b = cc in
-      subst (Here kind place w l at c lacks k) q (here_lone g)
-  here false g e f = let t = next-tells at c e f in subst (Here kind place w l at c lacks k) (sym t.1) (here-child t.0 t.2 g)
+  pub here : (lone : Bool) → Going kind place w l lone at c lacks k → {b : Item} → accepted (Some b) ≡ next lone kind place at c → Here kind place w l at c lacks k b
+  here true g {b} e = subst (Here kind place w l at c lacks k) (sym (item-is e)) (here_lone g)
+  here false g e = let t = next-tells at c e in subst (Here kind place w l at c lacks k) (sym t.1) (here-child t.0 t.2 g)
 
   -- n is how far the next box is from this one
-  pub going_less : (lone : Bool) → Going kind place w l lone at c lacks k → {r : Next} {b : Item} {n : ℕ} → r ≡ next lone kind place at c → r ≡ Found b → n ≡ 0 + b.header.length → turns false (take (length c - n) (drop n c)) < turns lone c
-  going_less true g {r} {b} {n} e f h =
-      let q : lone_item kind place c ≡ b = cc in
-      let z : length c ≡ b.header.length = ap (λ (x : Item). x.header.length) q in
+  pub going_less : (lone : Bool) → Going kind place w l lone at c lacks k → {b : Item} {n : ℕ} → accepted (Some b) ≡ next lone kind place at c → n ≡ 0 + b.header.length → turns false (take (length c - n) (drop n c)) < turns lone c
+  going_less true g {b} {n} e h =
+      let z : length c ≡ b.header.length = ap (λ (x : Item). x.header.length) (sym (item-is e)) in
       rw (rest-is c n, length-drop) (omega arith)
-  going_less false g {r} {b} {n} e f h =
-      let t = next-tells at c e f in
+  going_less false g {b} {n} e h =
+      let t = next-tells at c e in
       let z : b.header.length ≡ box_length c = ap (λ (x : Item). x.header.length) t.1 in
       rw (rest-is c n, length-drop) (omega (arith, header-least c, (sound c t.2).least))
 
-  module _ {b : Item} (h : Here kind place w l at c lacks k b) {o : Outcome} (d : o ≡ answer k (read_item b at c k)) where
-    pub going_stop : {n p : ℕ} → o.answer ≡ Refused n p → w ≡ refused n p
-    going_stop a = h.stop (answer-refused k (read_item b at c k) d a)
+  module _ {b : Item} (h : Here kind place w l at c lacks k b) where
+    pub going_stop : {n p : ℕ} → refused n p ≡ read_item b at c k → refused n p ≡ w
+    going_stop e = sym (h.stop (sym e))
 
-    pub going_on : {lack : Bool} {n i : ℕ} → o.answer ≡ Done → n ≡ 0 + b.header.length → i ≡ at + b.header.length → lack ≡ (not (holds (b.header.ty is IHDR)) && lacks)
-        → Going kind place w l false i (take (length c - n) (drop n c)) lack o.jp2
-    going_on {lack} {n} {i} a m p q =
+    pub going_on : {m : Jp2} {lack : Bool} {n i : ℕ} → accepted m ≡ read_item b at c k → n ≡ 0 + b.header.length → i ≡ at + b.header.length → lack ≡ (not (holds (b.header.ty is IHDR)) && lacks)
+        → Going kind place w l false i (take (length c - n) (drop n c)) lack m
+    going_on {m} {lack} {n} {i} e u p q =
         let z : n ≡ b.header.length = omega arith in
-        rw (rest-is c n, z, p) (h.on (answer-done k (read_item b at c k) d a) q)
+        rw (rest-is c n, z, p) (h.on (sym e) q)

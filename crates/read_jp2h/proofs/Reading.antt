@@ -6,8 +6,7 @@ use mathlib.Core.List.{List}
 use Rattle.box_kind.specs.declared.Jp2BoxType.{Jp2BoxType}
 use Rattle.box_kind.specs.declared.Jp2BoxType.TheVariants.{None, JPIP, JP, FTYP, JP2H, IHDR, COLR, JP2C, URL, PCLR, CMAP, CDEF, DTBL, BPCC, JP2, RES, JP2I, XML, UUID, UINF, Unknown}
 use Rattle.read_record.specs.declared.Jp2.{Jp2}
-use Rattle.read_record.specs.declared.Outcome.{Outcome}
-use Rattle.read_record.specs.Answer.{answer}
+use Rattle.read_record.specs.Answer.{Result}
 use Rattle.read_jp2h.specs.Child.{skipped, reader}
 
 -- a kind that has no reader
@@ -38,9 +37,9 @@ unread UINF h = refl
 unread (Unknown n) h = refl
 
 -- what the reader of a kind answered
-module _ (place start : ℕ) (c : List ℕ) (j : Jp2) {r : Outcome} where
-  pub read_as : {k l : Jp2BoxType} → k ≡ l → r ≡ answer j (reader l place start c j) → r ≡ answer j (reader k place start c j)
+module _ (place start : ℕ) (c : List ℕ) (j : Jp2) {r : Result} where
+  pub read_as : {k l : Jp2BoxType} → k ≡ l → r ≡ reader l place start c j → r ≡ reader k place start c j
   read_as e h = rw e h
 
-  pub read_none : (k : Jp2BoxType) → Unread k → r ≡ answer j (skipped place start c j) → r ≡ answer j (reader k place start c j)
+  pub read_none : (k : Jp2BoxType) → Unread k → r ≡ skipped place start c j → r ≡ reader k place start c j
   read_none k m h = rw (unread k m) h

@@ -1,6 +1,6 @@
 -- The ways through a box of the header: the answer of its loop is that of its definition.
 -- Assumes nothing.
-use Prim.Native.Nat.{ℕ, ◌+◌, ◌≤◌, ◌<◌}
+use Prim.Native.Nat.{ℕ, ◌+◌, ◌≤◌}
 use native.Mathlib.Omega.{arith}
 use mathlib.Core.Path.{◌≡◌, refl, sym, ap, subst, ◌∙◌}
 use mathlib.Core.Bool.{Bool, true, false, not, ◌&&◌}
@@ -18,11 +18,12 @@ use Rattle.read_record.specs.declared.Status.{Status}
 use Rattle.read_record.specs.Record.{with_status}
 use Rattle.read_record.specs.State.{file_type_bit}
 use Rattle.read_record.specs.Answer.{Result, accepted, refused}
+use Rattle.box_refusal.specs.Told.{Told}
 use Rattle.read_jp2h.specs.Split.{boxes}
 use Rattle.read_jp2h.specs.Child.{reader}
 use Rattle.read_jp2h.specs.Jp2h.{read_all, lacks_ihdr, jp2h, jp2h_alone}
 use Rattle.read_jp2h.specs.HeaderBox.{header_box}
-use Rattle.read_jp2h.specs.Private.Step.{refusal, opened, closed}
+use Rattle.read_jp2h.specs.Private.Step.{admitted, opened, closed}
 use Rattle.read_jp2h.proofs.Going.{Going}
 
 and_true : (b : Bool) → (b && true) ≡ b
@@ -72,19 +73,19 @@ module _ (kind : Jp2BoxType) (place start : ℕ) (c : List ℕ) (j : Jp2) where
     abbrev pub Fit : Type 0
     Fit = (start + length c ≤ largest) × (alone ≡ false → file_type_bit j ≡ 0 → ⊥)
 
-    abbrev Tells : ℕ → Type 0
-    Tells n = (0 < n → refused n place ≡ header_box kind place start c j) × (n ≡ 0 → Fit)
+    abbrev Tells : Told Unit → Type 0
+    Tells (refused n p) = refused n p ≡ header_box kind place start c j
+    Tells (accepted u) = Fit
 
-    pub box-begins : {n : ℕ} → n ≡ refusal alone start c j.status.state → Tells n
-    unfolding refusal header_box jp2h
+    pub box-begins : {t : Told Unit} → t ≡ admitted alone place start c j.status.state → Tells t
+    unfolding admitted header_box jp2h
     box-begins e =
         subst Tells (sym e)
         (each Tells _ (
-          (λ h. ((λ z. row 0 _ h refl), λ z. absurd (omega arith))),
+          (λ h. row 0 _ h refl),
           λ h. (
-            (λ f. ((λ z. absurd (omega arith)), λ z. (h, λ g. true_false (sym f ∙ g)))),
-            λ f.
-                ((λ t. ((λ z. row 1 _ (h, subst Kind f (kind-by alone a)) (row 0 _ t refl)), λ z. absurd (omega arith))), λ t. ((λ z. absurd (omega arith)), λ z. (h, λ g. t))),
+            (λ t. row 1 _ (h, subst Kind (not-true alone t.0) (kind-by alone a)) (row 0 _ t.1 refl)),
+            λ t. (h, λ g. t (ap not g)),
           ),
         ))
 

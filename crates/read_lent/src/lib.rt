@@ -1,12 +1,11 @@
-// The signature box and the file type box over a header record that is lent: each reader takes the record out, calls the reader by value, stores the record back and answers.
-// `leaves result j.new ≡ answer ..`: the answer and the record at exit are together what the reader's definition says, so a refusal leaves the record as it was.
+// The readers of boxes over a header record that is lent: each takes the record out, calls the reader by value, stores the record back and answers.
+// `Lent result j.old j.new ..`: the answer and the record at exit are together what the reader's definition says of the record at entry, and a refusal leaves the record as it was.
 #![tactic(auto)]
 
-ghost use Rattle.std.specs.Prelude.{◌≡◌};
-ghost use Rattle.read_record.specs.Answer.{answer};
+ghost use Rattle.std.specs.Prelude.{◌≡◌, OnErr};
+ghost use Rattle.box_refusal.specs.Told.{told};
 ghost use Rattle.read_signature.specs.Signature.{signature};
 ghost use Rattle.read_signature.specs.FileType.{file_type};
-ghost use Rattle.read_lent.specs.Lent.{leaves};
 ghost use Rattle.read_image.specs.Ihdr.{ihdr};
 ghost use Rattle.read_image.specs.Bpcc.{bpcc};
 ghost use Rattle.read_colour.specs.Colr.{colr};
@@ -15,91 +14,91 @@ ghost use Rattle.read_channels.specs.Cmap.{cmap};
 ghost use Rattle.read_channels.specs.Cdef.{cdef};
 ghost use Rattle.read_jp2h.specs.Jp2h.{jp2h_alone};
 ghost use Rattle.read_rules.specs.CutTransfers.{FileRead};
+ghost use Rattle.read_lent.specs.Lent.{Lent};
 ghost use Rattle.read_lent.specs.LentFile.{leaves_file};
 
-use read_record::{Answer, Jp2};
-use read_rules::FileAnswer;
+use box_refusal::Refusal;
+use read_record::{At, Jp2};
+use read_rules::FileEnd;
 
-pub fn opj_jp2_read_jp(c: &[u8], place: u32, start: u32, j: &mut Jp2) -> Answer
-    ensures { leaves result j.new ≡ answer j.old (signature place start c.now j.old) }
+// What the readers share; r is what the reader by value answers.
+fn lend<F: FnOnce(&[u8], At, Jp2) -> Result<Jp2, Refusal<u32>>>(
+    read: F,
+    c: &[u8],
+    at: At,
+    j: &mut Jp2,
+) -> Result<(), Refusal<u32>>
+    requires { F.IsAlwaysCallable read }
+    ensures { (r : _) × F.post read c.entry at j.old r × Lent result j.old j.new (told r) }
 {
-    let r = read_signature::opj_jp2_read_jp(c, place, start, *j);
-    *j = r.jp2;
-    r.answer
+    *j = read(c, at, *j)?;
+    Ok(())
 }
 
-pub fn opj_jp2_read_ftyp(c: &[u8], place: u32, start: u32, j: &mut Jp2) -> Answer
-    ensures { leaves result j.new ≡ answer j.old (file_type place start c.now j.old) }
+// The signature box and the file type box.
+
+pub fn opj_jp2_read_jp(c: &[u8], at: At, j: &mut Jp2) -> Result<(), Refusal<u32>>
+    ensures { Lent result j.old j.new (signature at.place at.start c.now j.old) }
 {
-    let r = read_signature::opj_jp2_read_ftyp(c, place, start, *j);
-    *j = r.jp2;
-    r.answer
+    lend(read_signature::opj_jp2_read_jp, c, at, j)
 }
 
-// The boxes of jp2h, and jp2h itself, over a header record that is lent, in the same way.
-
-pub fn opj_jp2_read_ihdr(c: &[u8], place: u32, start: u32, j: &mut Jp2) -> Answer
-    ensures { leaves result j.new ≡ answer j.old (ihdr place start c.now j.old) }
+pub fn opj_jp2_read_ftyp(c: &[u8], at: At, j: &mut Jp2) -> Result<(), Refusal<u32>>
+    ensures { Lent result j.old j.new (file_type at.place at.start c.now j.old) }
 {
-    let r = read_image::opj_jp2_read_ihdr(c, place, start, *j);
-    *j = r.jp2;
-    r.answer
+    lend(read_signature::opj_jp2_read_ftyp, c, at, j)
 }
 
-pub fn opj_jp2_read_bpcc(c: &[u8], place: u32, start: u32, j: &mut Jp2) -> Answer
-    ensures { leaves result j.new ≡ answer j.old (bpcc place start c.now j.old) }
+// The boxes of jp2h, and jp2h itself.
+
+pub fn opj_jp2_read_ihdr(c: &[u8], at: At, j: &mut Jp2) -> Result<(), Refusal<u32>>
+    ensures { Lent result j.old j.new (ihdr at.place at.start c.now j.old) }
 {
-    let r = read_image::opj_jp2_read_bpcc(c, place, start, *j);
-    *j = r.jp2;
-    r.answer
+    lend(read_image::opj_jp2_read_ihdr, c, at, j)
 }
 
-pub fn opj_jp2_read_colr(c: &[u8], place: u32, start: u32, j: &mut Jp2) -> Answer
-    ensures { leaves result j.new ≡ answer j.old (colr place start c.now j.old) }
+pub fn opj_jp2_read_bpcc(c: &[u8], at: At, j: &mut Jp2) -> Result<(), Refusal<u32>>
+    ensures { Lent result j.old j.new (bpcc at.place at.start c.now j.old) }
 {
-    let r = read_colour::opj_jp2_read_colr(c, place, start, *j);
-    *j = r.jp2;
-    r.answer
+    lend(read_image::opj_jp2_read_bpcc, c, at, j)
 }
 
-pub fn opj_jp2_read_pclr(c: &[u8], place: u32, start: u32, j: &mut Jp2) -> Answer
-    ensures { leaves result j.new ≡ answer j.old (pclr place start c.now j.old) }
+pub fn opj_jp2_read_colr(c: &[u8], at: At, j: &mut Jp2) -> Result<(), Refusal<u32>>
+    ensures { Lent result j.old j.new (colr at.place at.start c.now j.old) }
 {
-    let r = read_palette::opj_jp2_read_pclr(c, place, start, *j);
-    *j = r.jp2;
-    r.answer
+    lend(read_colour::opj_jp2_read_colr, c, at, j)
 }
 
-pub fn opj_jp2_read_cmap(c: &[u8], place: u32, start: u32, j: &mut Jp2) -> Answer
-    ensures { leaves result j.new ≡ answer j.old (cmap place start c.now j.old) }
+pub fn opj_jp2_read_pclr(c: &[u8], at: At, j: &mut Jp2) -> Result<(), Refusal<u32>>
+    ensures { Lent result j.old j.new (pclr at.place at.start c.now j.old) }
 {
-    let r = read_channels::opj_jp2_read_cmap(c, place, start, *j);
-    *j = r.jp2;
-    r.answer
+    lend(read_palette::opj_jp2_read_pclr, c, at, j)
 }
 
-pub fn opj_jp2_read_cdef(c: &[u8], place: u32, start: u32, j: &mut Jp2) -> Answer
-    ensures { leaves result j.new ≡ answer j.old (cdef place start c.now j.old) }
+pub fn opj_jp2_read_cmap(c: &[u8], at: At, j: &mut Jp2) -> Result<(), Refusal<u32>>
+    ensures { Lent result j.old j.new (cmap at.place at.start c.now j.old) }
 {
-    let r = read_channels::opj_jp2_read_cdef(c, place, start, *j);
-    *j = r.jp2;
-    r.answer
+    lend(read_channels::opj_jp2_read_cmap, c, at, j)
 }
 
-pub fn opj_jp2_read_jp2h(c: &[u8], place: u32, start: u32, j: &mut Jp2) -> Answer
-    ensures { leaves result j.new ≡ answer j.old (jp2h_alone place start c.now j.old) }
+pub fn opj_jp2_read_cdef(c: &[u8], at: At, j: &mut Jp2) -> Result<(), Refusal<u32>>
+    ensures { Lent result j.old j.new (cdef at.place at.start c.now j.old) }
 {
-    let r = read_jp2h::opj_jp2_read_jp2h(c, place, start, *j);
-    *j = r.jp2;
-    r.answer
+    lend(read_channels::opj_jp2_read_cdef, c, at, j)
 }
 
-// A file over a header record that is lent, in the same way: the record is taken out, read by value, and stored back.
-
-pub fn opj_jp2_read_header_procedure(s: &[u8], j: &mut Jp2) -> FileAnswer
-    ensures { FileRead s.now j.old (leaves_file result j.new) }
+pub fn opj_jp2_read_jp2h(c: &[u8], at: At, j: &mut Jp2) -> Result<(), Refusal<u32>>
+    ensures { Lent result j.old j.new (jp2h_alone at.place at.start c.now j.old) }
 {
-    let r = read_file::opj_jp2_read_header_procedure(s, *j);
+    lend(read_jp2h::opj_jp2_read_jp2h, c, at, j)
+}
+
+// A file over a header record that is lent, in the same way. Not by `lend`, since a file has no place, and the answer has where it ended.
+pub fn opj_jp2_read_header_procedure(s: &[u8], j: &mut Jp2) -> Result<FileEnd, Refusal<u32>>
+    ensures left { FileRead s.now j.old (leaves_file result j.new) }
+    ensures kept { OnErr result (j.new ≡ j.old) }
+{
+    let r = read_file::opj_jp2_read_header_procedure(s, *j)?;
     *j = r.jp2;
-    r.answer
+    Ok(r.end)
 }

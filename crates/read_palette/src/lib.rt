@@ -1,12 +1,13 @@
 // The palette box (I.5.3.4).
-// Every reader of a box has this signature: the box's content, the place where the box starts, where its content starts, and the record before it.
+// Every reader of a box has this signature: the box's content, where the box and its content start, and the record before it.
 #![tactic(auto)]
 
 ghost use Rattle.std.specs.Prelude.{◌≡◌};
-ghost use Rattle.read_record.specs.Answer.{answer};
+ghost use Rattle.read_record.specs.Answer.{told};
 ghost use Rattle.read_palette.specs.Pclr.{entry_bytes, row_bytes, pclr};
 
-use read_record::{Jp2, Outcome, Palette};
+use box_refusal::{Cause, Refusal};
+use read_record::{At, Jp2, Palette};
 
 // NE and NPC, before the depths of the columns.
 const COUNTS_BYTES: usize = 3;
@@ -20,61 +21,51 @@ const MOST_ENTRY_BYTES: usize = 4;
 pub fn entry_bytes(b: u8) -> usize
     ensures { result ≡ entry_bytes b }
 {
-    let filled = (b as usize % 128 + 8) / 8;
-    if filled < MOST_ENTRY_BYTES {
-        filled
-    } else {
-        MOST_ENTRY_BYTES
-    }
+    MOST_ENTRY_BYTES.min((b as usize % 128 + 8) / 8)
 }
 
 // The bytes that the first n columns of a row take; the columns' depths start at a place of s.
 pub fn row_bytes(s: &[u8], at: u32, n: u8) -> usize
     ensures { result ≡ row_bytes s.now at n }
 {
+    // a loop: map and sum leave two goals that are longer than this
     let first = at as usize;
-    let columns = n as usize;
     let mut sum: usize = 0;
-    let mut i: usize = 0;
-    while i < columns {
+    for i in 0..n as usize {
         sum = sum + entry_bytes(box_number::read_u8(s, first + i));
-        i = i + 1;
     }
     sum
 }
 
-pub fn opj_jp2_read_pclr(c: &[u8], place: u32, start: u32, j: Jp2) -> Outcome
-    ensures { result ≡ answer j (pclr place start c.now j) }
+pub fn opj_jp2_read_pclr(c: &[u8], at: At, j: Jp2) -> Result<Jp2, Refusal<u32>>
+    ensures { told result ≡ pclr at.place at.start c.now j }
 {
-    let mut lists = j.lists;
-    if lists.pclr.columns != 0 {
-        return Outcome::refused(18, place, j);
+    if j.lists.pclr.columns != 0 {
+        return Err(at.refused(Cause::SecondList));
     }
     if c.len() < COUNTS_BYTES {
-        return Outcome::refused(20, place, j);
+        return Err(at.refused(Cause::PaletteTooShort));
     }
     let entries = box_number::read_u16(c, 0);
     let columns = box_number::read_u8(c, 2);
     if entries == 0 {
-        return Outcome::refused(19, place, j);
+        return Err(at.refused(Cause::PaletteSize));
     }
     if MOST_ENTRIES < entries {
-        return Outcome::refused(19, place, j);
+        return Err(at.refused(Cause::PaletteSize));
     }
     if columns == 0 {
-        return Outcome::refused(19, place, j);
+        return Err(at.refused(Cause::PaletteSize));
     }
     let row = row_bytes(c, 3, columns);
     if c.len() < COUNTS_BYTES + columns as usize + entries as usize * row {
-        return Outcome::refused(20, place, j);
+        return Err(at.refused(Cause::PaletteTooShort));
     }
-    let pclr = Palette {
-        place: start as usize + COUNTS_BYTES,
+    let mut k = j;
+    k.lists.pclr = Palette {
+        place: at.start as usize + COUNTS_BYTES,
         entries: entries as u32,
         columns: columns as u32,
     };
-    lists.pclr = pclr;
-    let mut k = j;
-    k.lists = lists;
-    Outcome::done(k)
+    Ok(k)
 }

@@ -1,16 +1,10 @@
--- What a reader answers: the record that it leaves, or a number of the table and the place. A refusal leaves the record as it was.
-use Rattle.std.specs.Prelude.{ℕ}
+-- What a reader answers: the record that it leaves, or a number of the table and the place.
+use Rattle.box_refusal.specs.Told.{Told}
+pub use Rattle.box_refusal.specs.Told.{accepted, refused, told}
 use Rattle.read_record.specs.declared.Jp2.{Jp2}
-use Rattle.read_record.specs.declared.Outcome.{Outcome}
-use Rattle.read_record.specs.declared.Answer.TheVariants.{Done, Refused}
 
-pub data Result : Type 0 where
-  accepted : Jp2 → Result
-  refused : ℕ → ℕ → Result
-
-unfoldable pub answer : Jp2 → Result → Outcome
-answer old (accepted j) = record { answer = Done; jp2 = j }
-answer old (refused number place) = record { answer = Refused number place; jp2 = old }
+abbrev pub Result : Type 0
+Result = Told Jp2
 
 -- one reading after another: the first refusal ends it
 abbrev pub and_then : Result → (Jp2 → Result) → Result

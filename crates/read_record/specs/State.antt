@@ -1,8 +1,17 @@
 -- The bits of jp2_state: signature 1, file type 2, header 4, codestream 8.
 use Rattle.std.specs.Prelude.{ℕ, ◌+◌, ◌*◌, ◌/◌, ◌%◌}
 use Rattle.box_number.specs.Table.{◌=?◌, otherwise, ◌⇒◌∣◌, table}
+use Rattle.read_record.specs.declared.Bit.{Bit}
+use Rattle.read_record.specs.declared.Bit.TheVariants.{Signature, FileType, Header, Codestream}
 use Rattle.read_record.specs.declared.Jp2.{Jp2}
 use Rattle.read_record.specs.Record.{with_state, with_imgstate}
+
+-- the weights of the bits
+abbrev pub weight : Bit → ℕ
+weight Signature = 1
+weight FileType = 2
+weight Header = 4
+weight Codestream = 8
 
 -- the bit of weight w
 abbrev pub bit : ℕ → ℕ → ℕ

@@ -17,8 +17,7 @@ use Rattle.read_record.specs.declared.Jp2.{Jp2}
 use Rattle.read_record.specs.State.{with_unknown}
 use Rattle.read_record.specs.Answer.{Result, accepted, refused}
 use Rattle.read_jp2h.specs.Split.{Box, Boxes, no_bytes, cut, high_word, to_end, short, past, ◌▸◌, split, boxes}
-use Rattle.read_rules.specs.declared.Reading.{Reading}
-use Rattle.read_rules.specs.File.{Walked, codestream, ended, file_refused, then_walk, is_stream, stream, other, is_read, past_end, outer, whole, run, walk, reading}
+use Rattle.read_rules.specs.File.{Walked, codestream, ended, file_refused, then_walk, is_stream, stream, other, is_read, past_end, outer, whole, run, walk}
 use Rattle.read_rules.specs.Beginnings.{end_of, run_to}
 use Rattle.read_rules.specs.CutTransfers.{before, first_cut, ButState, FieldByField, CutShort, as_whole, ended_with, four_at, NothingElse, CutTransfers, WhateverWasLost, FileRead, length_zero, NoLengthZeroBefore}
 use Rattle.read_rules.proofs.Headers.{box_by_box}
@@ -235,12 +234,12 @@ nothing_else bs j offset m n w (four_at l b p h q) = (l, refl, (b, p, refl, h, q
 pub cut_transfers : CutTransfers
 cut_transfers f j offset m e n few = subst (CutShort (boxes 0 f) j offset m n) (sym (beginnings f j n (not_long f j e) few)) (cuts offset m n (boxes 0 f) 0 j (ordered (length f) 0 f) (boxes_reach f j e)).1
 
-pub whatever_was_lost : (s : List ℕ) (j : Jp2) (r : Reading) → r ≡ reading j (walk s j) → WhateverWasLost s j r
-whatever_was_lost s j r e rest offset m reaches =
-    (walk s j, e, subst (λ (x : List ℕ). CutShort (boxes 0 (s ++ rest)) j offset m (length s) (walk x j)) (take-append_seam s rest) (cut_transfers (s ++ rest) j offset m reaches (length s) (rw length-append (omega arith))))
+pub whatever_was_lost : (s : List ℕ) (j : Jp2) (w : Walked) → w ≡ walk s j → WhateverWasLost s j w
+whatever_was_lost s j w e rest offset m reaches =
+    rw e (subst (λ (x : List ℕ). CutShort (boxes 0 (s ++ rest)) j offset m (length s) (walk x j)) (take-append_seam s rest) (cut_transfers (s ++ rest) j offset m reaches (length s) (rw length-append (omega arith))))
 
-pub file-read : (s : List ℕ) (j : Jp2) (r : Reading) → r ≡ reading j (walk s j) → FileRead s j r
-file-read s j r e = record { exact = e; cut = whatever_was_lost s j r e }
+pub file-read : (s : List ℕ) (j : Jp2) (w : Walked) → w ≡ walk s j → FileRead s j w
+file-read s j w e = record { exact = e; cut = whatever_was_lost s j w e }
 
 no-box : {X : Type 0} {b : Box} → ◌≡◌ {A = List Box} [] (b ∷ []) → X
 no-box e = let z : ◌≡◌ {A = ℕ} 0 1 = cc in absurd (omega arith)

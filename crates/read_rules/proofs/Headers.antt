@@ -5,11 +5,12 @@ use mathlib.Core.Path.{◌≡◌, refl, sym, ap, ◌∙◌}
 use mathlib.Core.List.{List}
 use native.Mathlib.Omega.{arith}
 use lib.ListN.{length, drop, length-drop}
+use Rattle.std.specs.Prelude.{Ok, Err}
 use Rattle.box_number.specs.Table.{◌=?◌, ◌<?◌}
 use Rattle.box_number.proofs.Rows.{row, each}
 use Rattle.box_number.proofs.Indices.{decide}
 use Rattle.box_header.specs.Box.{LBox, length_of_header, box_length, header_of, header, child_header}
-use Rattle.box_header.specs.declared.ReadHeader.TheVariants.{Header, NoBytes, Cut, HighWord, LengthZero}
+use Rattle.box_header.specs.declared.NoHeader.TheVariants.{NoBytes, Cut, HighWord, LengthZero}
 use Rattle.box_header.proofs.Headers.{header_8, header-least, box-all}
 use Rattle.read_record.specs.declared.Jp2.{Jp2}
 use Rattle.read_record.specs.Answer.{and_then}
@@ -22,19 +23,19 @@ use Rattle.read_rules.specs.BoxByBox.{children_from, box_from, boxes_from, BoxBy
 
 -- the header's answers
 module _ (c : List ℕ) where
-  header-none : length c ≡ 0 → header c ≡ NoBytes
+  header-none : length c ≡ 0 → header c ≡ Err NoBytes
   unfolding header
   header-none h = sym (row 0 _ h refl)
 
-  header-cut : (length c ≡ 0 → ⊥) → length c < length_of_header c → header c ≡ Cut
+  header-cut : (length c ≡ 0 → ⊥) → length c < length_of_header c → header c ≡ Err Cut
   unfolding header
   header-cut some h = sym (row 1 _ (some, h) refl)
 
-  header-high : (length c ≡ 0 → ⊥) → length_of_header c ≤ length c → 4294967295 < box_length c → header c ≡ HighWord
+  header-high : (length c ≡ 0 → ⊥) → length_of_header c ≤ length c → 4294967295 < box_length c → header c ≡ Err HighWord
   unfolding header
   header-high some h l = sym (row 2 _ (some, (h, l)) refl)
 
-  header-there : (length c ≡ 0 → ⊥) → length_of_header c ≤ length c → box_length c ≤ 4294967295 → header c ≡ Header (header_of c)
+  header-there : (length c ≡ 0 → ⊥) → length_of_header c ≤ length c → box_length c ≤ 4294967295 → header c ≡ Ok (header_of c)
   unfolding header
   header-there some h l = sym (row 3 _ (some, (h, (l, tt))) refl)
 
@@ -42,7 +43,7 @@ module _ (c : List ℕ) where
   unfolding child_header
   child-first h = sym (row 0 _ h refl)
 
-  child_zero : 8 ≤ length c → LBox c ≡ 0 → child_header c ≡ LengthZero
+  child_zero : 8 ≤ length c → LBox c ≡ 0 → child_header c ≡ Err LengthZero
   unfolding child_header
   child_zero h z = sym (row 1 _ (h, z) refl)
 
@@ -50,16 +51,16 @@ module _ (c : List ℕ) where
   unfolding child_header
   child-plain h z = sym (row 2 _ (h, (z, tt)) refl)
 
-  child-none : length c ≡ 0 → child_header c ≡ NoBytes
+  child-none : length c ≡ 0 → child_header c ≡ Err NoBytes
   child-none z = child-first (omega arith) ∙ header-none z
 
-  child-cut : (length c ≡ 0 → ⊥) → length c < length_of_header c → child_header c ≡ Cut
+  child-cut : (length c ≡ 0 → ⊥) → length c < length_of_header c → child_header c ≡ Err Cut
   child-cut some h =
       decide (length c <? 8)
       (λ l. child-first l ∙ header-cut some h)
       (λ l. child-plain l (λ z. let e : length_of_header c ≡ 8 = header_8 c (λ o. omega arith) in omega arith) ∙ header-cut some h)
 
-  child-there : (length c ≡ 0 → ⊥) → length_of_header c ≤ length c → box_length c ≤ 4294967295 → (LBox c ≡ 0 → ⊥) → child_header c ≡ Header (header_of c)
+  child-there : (length c ≡ 0 → ⊥) → length_of_header c ≤ length c → box_length c ≤ 4294967295 → (LBox c ≡ 0 → ⊥) → child_header c ≡ Ok (header_of c)
   child-there some h l z = child-plain (omega (arith, header-least c)) z ∙ header-there some h l
 
 pub rest-less : (c : List ℕ) (n : ℕ) → length_of_header c ≤ box_length c → box_length c ≤ length c → length c ≤ suc n → length (drop (box_length c) c) ≤ n

@@ -15,3 +15,4 @@ pub mod Sounds
 pub mod Headers
 pub mod Beginnings
 pub mod Cuts
+pub mod Once

@@ -13,10 +13,9 @@ use Rattle.read_image.specs.Ihdr.{ihdr}
 use Rattle.read_colour.specs.Colr.{lab, colr}
 use Rattle.read_jp2h.specs.Split.{Box, Boxes, no_bytes, cut, high_word, to_end, short, past, ◌▸◌, split, boxes}
 use Rattle.read_jp2h.specs.Jp2h.{read_all, lacks_ihdr, jp2h}
-use Rattle.read_rules.specs.declared.FileAnswer.TheVariants.{Codestream, Ended, Refused}
-use Rattle.read_rules.specs.File.{codestream, ended, file_refused, outer, run, walk, reading}
+use Rattle.read_rules.specs.File.{codestream, ended, file_refused, outer, run, walk, after}
 use Rattle.read_rules.specs.Files.{four, box_by_number}
-use Rattle.read_rules.specs.Records.{start, jp2h_box, jp2c_box, one, grey_box, extended_header, no_record, no_image, no_colour, typed, no_lists, jp2_type, small, grey, unlisted, full_with, Cases, end, ◌from◌gives◌with◌∣◌, results, expected}
+use Rattle.read_rules.specs.Records.{start, jp2h_box, jp2c_box, one, grey_box, extended_header, no_record, no_image, no_colour, typed, no_lists, jp2_type, small, grey, unlisted, full_with, refuses, Cases, end, ◌from◌gives◌with◌∣◌, results, expected}
 use Rattle.read_rules.specs.CutTransfers.{before, first_cut, length_zero}
 
 -- signature at 0, file type at 12, jp2h at 32, a box that is skipped at 77, the codestream box at 89; its offset is 97
@@ -42,63 +41,63 @@ last_file = start ++ jp2h_box one ++ grey_box ++ four 0 ++ four 0x6a703263 ++ 1 
 abbrev pub cut_files : Cases
 cut_files =
     -- no bytes; a header without its last byte, and with it; a box without its last byte, and with it
-    take 0 plain_file from no_record gives Ended with no_record ∣
-    take 7 plain_file from no_record gives Ended with no_record ∣
-    take 8 plain_file from no_record gives Refused 4 0 with no_record ∣
-    take 11 plain_file from no_record gives Refused 4 0 with no_record ∣
-    take 12 plain_file from no_record gives Ended with jp2 no_image no_colour (typed 0 0) no_lists (status 1 0 0 0) ∣
-    take 19 plain_file from no_record gives Ended with jp2 no_image no_colour (typed 0 0) no_lists (status 1 0 0 0) ∣
-    take 20 plain_file from no_record gives Refused 4 12 with no_record ∣
-    take 28 plain_file from no_record gives Refused 4 12 with no_record ∣
-    take 31 plain_file from no_record gives Refused 4 12 with no_record ∣
-    take 32 plain_file from no_record gives Ended with jp2 no_image no_colour jp2_type unlisted (status 3 0 0 0) ∣
-    take 39 plain_file from no_record gives Ended with jp2 no_image no_colour jp2_type unlisted (status 3 0 0 0) ∣
+    take 0 plain_file from no_record gives ended with no_record ∣
+    take 7 plain_file from no_record gives ended with no_record ∣
+    take 8 plain_file from no_record gives refuses 4 0 with no_record ∣
+    take 11 plain_file from no_record gives refuses 4 0 with no_record ∣
+    take 12 plain_file from no_record gives ended with jp2 no_image no_colour (typed 0 0) no_lists (status 1 0 0 0) ∣
+    take 19 plain_file from no_record gives ended with jp2 no_image no_colour (typed 0 0) no_lists (status 1 0 0 0) ∣
+    take 20 plain_file from no_record gives refuses 4 12 with no_record ∣
+    take 28 plain_file from no_record gives refuses 4 12 with no_record ∣
+    take 31 plain_file from no_record gives refuses 4 12 with no_record ∣
+    take 32 plain_file from no_record gives ended with jp2 no_image no_colour jp2_type unlisted (status 3 0 0 0) ∣
+    take 39 plain_file from no_record gives ended with jp2 no_image no_colour jp2_type unlisted (status 3 0 0 0) ∣
     -- jp2h: empty, inside a child's header, inside a child, between two children, inside the second, without its last byte; whole
-    take 40 plain_file from no_record gives Refused 4 32 with no_record ∣
-    take 44 plain_file from no_record gives Refused 4 32 with no_record ∣
-    take 61 plain_file from no_record gives Refused 4 32 with no_record ∣
-    take 62 plain_file from no_record gives Refused 4 32 with no_record ∣
-    take 72 plain_file from no_record gives Refused 4 32 with no_record ∣
-    take 76 plain_file from no_record gives Refused 4 32 with no_record ∣
-    take 77 plain_file from no_record gives Ended with headed 7 ∣
+    take 40 plain_file from no_record gives refuses 4 32 with no_record ∣
+    take 44 plain_file from no_record gives refuses 4 32 with no_record ∣
+    take 61 plain_file from no_record gives refuses 4 32 with no_record ∣
+    take 62 plain_file from no_record gives refuses 4 32 with no_record ∣
+    take 72 plain_file from no_record gives refuses 4 32 with no_record ∣
+    take 76 plain_file from no_record gives refuses 4 32 with no_record ∣
+    take 77 plain_file from no_record gives ended with headed 7 ∣
     -- a box that is skipped: inside its header, behind it, without its last byte; whole
-    take 84 plain_file from no_record gives Ended with headed 7 ∣
-    take 85 plain_file from no_record gives Ended with headed 2147483647 ∣
-    take 88 plain_file from no_record gives Ended with headed 2147483647 ∣
-    take 89 plain_file from no_record gives Ended with headed 2147483647 ∣
+    take 84 plain_file from no_record gives ended with headed 7 ∣
+    take 85 plain_file from no_record gives ended with headed 2147483647 ∣
+    take 88 plain_file from no_record gives ended with headed 2147483647 ∣
+    take 89 plain_file from no_record gives ended with headed 2147483647 ∣
     -- the codestream's header without its last byte, and with it
-    take 96 plain_file from no_record gives Ended with headed 2147483647 ∣
-    take 97 plain_file from no_record gives Codestream 97 with headed 2147483647 ∣
+    take 96 plain_file from no_record gives ended with headed 2147483647 ∣
+    take 97 plain_file from no_record gives codestream 97 with headed 2147483647 ∣
     -- headers of 16 bytes: with 7, 8, 15 and 16 of them
-    take 69 extended_file from no_record gives Ended with jp2 small no_colour jp2_type unlisted (status 7 0 1 1) ∣
-    take 70 extended_file from no_record gives Ended with jp2 small no_colour jp2_type unlisted (status 7 0 1 1) ∣
-    take 77 extended_file from no_record gives Ended with jp2 small no_colour jp2_type unlisted (status 7 0 1 1) ∣
-    take 78 extended_file from no_record gives Ended with jp2 small no_colour jp2_type unlisted (status 2147483647 0 1 1) ∣
-    take 79 extended_file from no_record gives Ended with jp2 small no_colour jp2_type unlisted (status 2147483647 0 1 1) ∣
-    take 88 extended_file from no_record gives Ended with jp2 small no_colour jp2_type unlisted (status 2147483647 0 1 1) ∣
-    take 95 extended_file from no_record gives Ended with jp2 small no_colour jp2_type unlisted (status 2147483647 0 1 1) ∣
-    take 96 extended_file from no_record gives Codestream 96 with jp2 small no_colour jp2_type unlisted (status 2147483647 0 1 1) ∣
+    take 69 extended_file from no_record gives ended with jp2 small no_colour jp2_type unlisted (status 7 0 1 1) ∣
+    take 70 extended_file from no_record gives ended with jp2 small no_colour jp2_type unlisted (status 7 0 1 1) ∣
+    take 77 extended_file from no_record gives ended with jp2 small no_colour jp2_type unlisted (status 7 0 1 1) ∣
+    take 78 extended_file from no_record gives ended with jp2 small no_colour jp2_type unlisted (status 2147483647 0 1 1) ∣
+    take 79 extended_file from no_record gives ended with jp2 small no_colour jp2_type unlisted (status 2147483647 0 1 1) ∣
+    take 88 extended_file from no_record gives ended with jp2 small no_colour jp2_type unlisted (status 2147483647 0 1 1) ∣
+    take 95 extended_file from no_record gives ended with jp2 small no_colour jp2_type unlisted (status 2147483647 0 1 1) ∣
+    take 96 extended_file from no_record gives codestream 96 with jp2 small no_colour jp2_type unlisted (status 2147483647 0 1 1) ∣
     -- a box of jp2h before it, which is skipped where it is whole, and refused where it is cut
-    take 39 early_file from no_record gives Ended with jp2 no_image no_colour jp2_type unlisted (status 3 0 0 0) ∣
-    take 40 early_file from no_record gives Refused 4 32 with no_record ∣
-    take 46 early_file from no_record gives Refused 4 32 with no_record ∣
-    take 47 early_file from no_record gives Ended with jp2 no_image no_colour jp2_type unlisted (status 2147483647 0 0 0) ∣
-    take 76 early_file from no_record gives Refused 4 47 with no_record ∣
-    take 85 early_file from no_record gives Codestream 85 with jp2 small no_colour jp2_type unlisted (status 2147483647 0 1 1) ∣
+    take 39 early_file from no_record gives ended with jp2 no_image no_colour jp2_type unlisted (status 3 0 0 0) ∣
+    take 40 early_file from no_record gives refuses 4 32 with no_record ∣
+    take 46 early_file from no_record gives refuses 4 32 with no_record ∣
+    take 47 early_file from no_record gives ended with jp2 no_image no_colour jp2_type unlisted (status 2147483647 0 0 0) ∣
+    take 76 early_file from no_record gives refuses 4 47 with no_record ∣
+    take 85 early_file from no_record gives codestream 85 with jp2 small no_colour jp2_type unlisted (status 2147483647 0 1 1) ∣
     -- a box of jp2h behind it, and a codestream box of length 0
-    take 76 last_file from no_record gives Refused 4 62 with no_record ∣
-    take 77 last_file from no_record gives Ended with headed 7 ∣
-    take 84 last_file from no_record gives Ended with headed 7 ∣
-    take 85 last_file from no_record gives Codestream 85 with headed 15 ∣
-    take 87 last_file from no_record gives Codestream 85 with headed 15 ∣
-    take 88 last_file from no_record gives Codestream 85 with headed 15 ∣
+    take 76 last_file from no_record gives refuses 4 62 with no_record ∣
+    take 77 last_file from no_record gives ended with headed 7 ∣
+    take 84 last_file from no_record gives ended with headed 7 ∣
+    take 85 last_file from no_record gives codestream 85 with headed 15 ∣
+    take 87 last_file from no_record gives codestream 85 with headed 15 ∣
+    take 88 last_file from no_record gives codestream 85 with headed 15 ∣
     -- from another record
-    take 8 (box_by_number 0x66726565 (1 ∷ []) ++ jp2c_box) from full_with (status 2147483655 5 6 7) gives Ended with full_with (status 4294967295 5 6 7) ∣
-    take 7 (box_by_number 0x66726565 (1 ∷ []) ++ jp2c_box) from full_with (status 2147483655 5 6 7) gives Ended with full_with (status 2147483655 5 6 7) ∣
+    take 8 (box_by_number 0x66726565 (1 ∷ []) ++ jp2c_box) from full_with (status 2147483655 5 6 7) gives ended with full_with (status 4294967295 5 6 7) ∣
+    take 7 (box_by_number 0x66726565 (1 ∷ []) ++ jp2c_box) from full_with (status 2147483655 5 6 7) gives ended with full_with (status 2147483655 5 6 7) ∣
     end
 
 pub cut_files_lem : results cut_files ≡ expected cut_files
-unfolding table number part kind_of length_of_header box_length with_bit signature file_type ihdr lab colr split read_all lacks_ihdr jp2h outer run walk reading
+unfolding table number part kind_of length_of_header box_length with_bit signature file_type ihdr lab colr split read_all lacks_ihdr jp2h outer run walk after
 cut_files_lem = refl
 
 -- the places of boxes

@@ -6,8 +6,7 @@ use Rattle.read_record.specs.declared.Jp2.{Jp2}
 use Rattle.read_record.specs.Record.{with_state}
 use Rattle.read_record.specs.State.{unknown}
 use Rattle.read_jp2h.specs.Split.{Box, Boxes, no_bytes, cut, high_word, to_end, short, past, ◌▸◌, boxes}
-use Rattle.read_rules.specs.declared.Reading.{Reading}
-use Rattle.read_rules.specs.File.{Walked, codestream, ended, file_refused, is_read, run, walk, reading}
+use Rattle.read_rules.specs.File.{Walked, codestream, ended, file_refused, is_read, run, walk}
 use Rattle.read_rules.specs.Beginnings.{end_of}
 
 -- of the boxes of a file those that lie wholly in its first n bytes
@@ -68,14 +67,14 @@ NothingElse = (bs : Boxes) (j : Jp2) (offset : ℕ) (m : Jp2) (n : ℕ) (w : Wal
 abbrev pub CutTransfers : Type 0
 CutTransfers = (f : List ℕ) (j : Jp2) (offset : ℕ) (m : Jp2) → walk f j ≡ codestream offset m → (n : ℕ) → n ≤ length f → CutShort (boxes 0 f) j offset m n (walk (take n f) j)
 
--- As one run can say it, where s is read from j with the result r: whatever bytes came after s and were lost, if the whole reaches its codestream, then r is one of the three
-abbrev pub WhateverWasLost : List ℕ → Jp2 → Reading → Type 0
-WhateverWasLost s j r = (rest : List ℕ) (offset : ℕ) (m : Jp2) → walk (s ++ rest) j ≡ codestream offset m → (w : Walked) × (r ≡ reading j w) × CutShort (boxes 0 (s ++ rest)) j offset m (length s) w
+-- As one run can say it, where s is read from j with the result w: whatever bytes came after s and were lost, if the whole reaches its codestream, then w is one of the three
+abbrev pub WhateverWasLost : List ℕ → Jp2 → Walked → Type 0
+WhateverWasLost s j w = (rest : List ℕ) (offset : ℕ) (m : Jp2) → walk (s ++ rest) j ≡ codestream offset m → CutShort (boxes 0 (s ++ rest)) j offset m (length s) w
 
 -- the promise of reading s from j: the result, and R-1 for whatever was lost behind s
-pub record FileRead (s : List ℕ) (j : Jp2) (r : Reading) : Type 0 where
-  pub exact : r ≡ reading j (walk s j)
-  pub cut : WhateverWasLost s j r
+pub record FileRead (s : List ℕ) (j : Jp2) (w : Walked) : Type 0 where
+  pub exact : w ≡ walk s j
+  pub cut : WhateverWasLost s j w
 
 -- the box of length 0, as a list of at most one
 abbrev pub length_zero : Boxes → List Box

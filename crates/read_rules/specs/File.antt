@@ -1,10 +1,13 @@
 -- I.2.2: a JP2 file is a sequence of boxes. They are read in the file's order, up to the codestream.
-use Rattle.std.specs.Prelude.{ℕ, List, length}
+use Rattle.std.specs.Prelude.{ℕ, ◌≡◌, List, length}
+use Rattle.std.specs.Prelude as std
 use Rattle.box_number.specs.Table.{Test, ◌=?◌, ◌<?◌, ◌or◌, ◌and◌, otherwise, ◌⇒◌∣◌, table}
 use Rattle.box_kind.specs.Kind.{◌is◌, is_file_header, is_image_header}
 use Rattle.box_kind.specs.declared.Jp2BoxType.{Jp2BoxType}
 use Rattle.box_kind.specs.declared.Jp2BoxType.TheVariants.{JP, FTYP, JP2H, JP2C}
 use Rattle.box_header.specs.Box.{largest}
+use Rattle.box_refusal.specs.declared.Refusal.{Refusal}
+use Rattle.box_refusal.specs.Told.{number}
 use Rattle.read_record.specs.declared.Jp2.{Jp2}
 use Rattle.read_record.specs.Record.{blank, with_state}
 use Rattle.read_record.specs.State.{signature_bit, file_type_bit, header_bit, with_bit, with_unknown}
@@ -14,7 +17,8 @@ use Rattle.read_signature.specs.FileType.{file_type}
 use Rattle.read_jp2h.specs.Split.{Box, Boxes, no_bytes, cut, high_word, to_end, short, past, ◌▸◌, boxes}
 use Rattle.read_jp2h.specs.Child.{child}
 use Rattle.read_jp2h.specs.Jp2h.{jp2h}
-use Rattle.read_rules.specs.declared.FileAnswer.TheVariants.{Codestream, Ended, Refused}
+use Rattle.read_rules.specs.declared.FileEnd.{FileEnd}
+use Rattle.read_rules.specs.declared.FileEnd.TheVariants.{Codestream, Ended}
 use Rattle.read_rules.specs.declared.Reading.{Reading}
 
 -- the result of reading a file: the codestream's offset and the record, "ended" and the record, or a number and the place
@@ -83,8 +87,21 @@ walk f j = table (largest <? length f ⇒ file_refused 1 0 ∣ otherwise (run (b
 abbrev pub read : List ℕ → Walked
 read f = walk f blank
 
--- the answer and the record after it; a refusal leaves the record as it was
-unfoldable pub reading : Jp2 → Walked → Reading
-reading old (codestream offset k) = record { answer = Codestream offset; jp2 = k }
-reading old (ended k) = record { answer = Ended; jp2 = k }
-reading old (file_refused number place) = record { answer = Refused number place; jp2 = old }
+-- what the code answers, in the numbers of the table
+abbrev pub came_to : FileEnd → Jp2 → Walked
+came_to (Codestream offset) k = codestream offset k
+came_to Ended k = ended k
+
+abbrev pub walked : std.Result Reading (Refusal ℕ) → Walked
+walked (std.Ok r) = came_to r.end r.jp2
+walked (std.Err r) = file_refused (number r.cause) r.place
+
+-- two answers of which the same is told are the same
+abbrev pub WalkedOnce : Type 0
+WalkedOnce = (a b : std.Result Reading (Refusal ℕ)) → walked a ≡ walked b → a ≡ b
+
+-- the record of a caller who takes the one that reading gives. A refusal gives none, and leaves the caller's own
+unfoldable pub after : Jp2 → Walked → Jp2
+after old (codestream offset k) = k
+after old (ended k) = k
+after old (file_refused number place) = old

@@ -16,9 +16,8 @@ use Rattle.read_record.specs.declared.Lists.{Lists}
 use Rattle.read_record.specs.declared.Status.{Status}
 use Rattle.read_record.specs.declared.Jp2.{Jp2}
 use Rattle.read_record.specs.Record.{jp2, span, palette, lists, status, blank}
-use Rattle.read_record.specs.declared.Answer.TheVariants.{Done}
 use Rattle.read_record.specs.State.{with_bit}
-use Rattle.read_record.specs.Answer.{refused, answer}
+use Rattle.read_record.specs.Answer.{accepted, refused}
 use Rattle.read_signature.specs.Signature.{signature}
 use Rattle.read_signature.specs.FileType.{file_type}
 use Rattle.read_image.specs.Ihdr.{ihdr}
@@ -30,10 +29,7 @@ use Rattle.read_channels.specs.Cdef.{cdef}
 use Rattle.read_jp2h.specs.Split.{split}
 use Rattle.read_jp2h.specs.Jp2h.{read_all, lacks_ihdr, jp2h, jp2h_alone}
 use Rattle.read_jp2h.specs.HeaderBox.{header_box}
-use Rattle.read_rules.specs.declared.FileAnswer.{FileAnswer}
-use Rattle.read_rules.specs.declared.FileAnswer.TheVariants.{Codestream, Ended, Refused}
-use Rattle.read_rules.specs.declared.Reading.{Reading}
-use Rattle.read_rules.specs.File.{outer, run, walk, reading}
+use Rattle.read_rules.specs.File.{Walked, codestream, ended, file_refused, outer, run, walk, after}
 use Rattle.read_rules.specs.Files.{two, four, box_by_number}
 
 -- boxes by the number of their kind
@@ -167,221 +163,226 @@ known i t l s = jp2 i (colour 2 41 42 43 (lab_of 1 2 3 4 5 6 7 8 9 9) 1) t l s
 abbrev pub full_with : Status → Jp2
 full_with s = known large (typed 51 52) (lists (span 61 62) (span 63 64) (span 65 66) (palette 67 68 69) (span 70 71) (span 72 73)) s
 
+-- a refusal, beside the record that a caller then has
+abbrev pub refuses : ℕ → ℕ → Jp2 → Walked
+refuses number place m = file_refused number place
+
 -- a table of files, the record before each, and the answer with the record after it
 infixr 20 ◌from◌gives◌with◌∣◌
 pub data Cases : Type 0 where
   end : Cases
-  ◌from◌gives◌with◌∣◌ : List ℕ → Jp2 → FileAnswer → Jp2 → Cases → Cases
+  ◌from◌gives◌with◌∣◌ : List ℕ → Jp2 → (Jp2 → Walked) → Jp2 → Cases → Cases
 
 -- files that are read
 abbrev pub read_files : Cases
 read_files =
     -- nothing is read, and nothing changes
-    [] from no_record gives Ended with no_record ∣
-    [] from full_with (status 1 2 3 4) gives Ended with full_with (status 1 2 3 4) ∣
+    [] from no_record gives ended with no_record ∣
+    [] from full_with (status 1 2 3 4) gives ended with full_with (status 1 2 3 4) ∣
     -- signature; file type, with two entries and with none
-    signed from no_record gives Ended with jp2 no_image no_colour (typed 0 0) no_lists (status 1 0 0 0) ∣
-    signed ++ ftyp_box (four 0x01020304 ++ four 0x05060708 ++ four 9 ++ four 10) from no_record gives Ended with jp2 no_image no_colour (typed 0x01020304 0x05060708) (lists (span 28 2) none none no_palette none none) (status 3 0 0 0) ∣
-    signed ++ ftyp_box (four 1 ++ four 2) from no_record gives Ended with jp2 no_image no_colour (typed 1 2) (lists (span 28 0) none none no_palette none none) (status 3 0 0 0) ∣
+    signed from no_record gives ended with jp2 no_image no_colour (typed 0 0) no_lists (status 1 0 0 0) ∣
+    signed ++ ftyp_box (four 0x01020304 ++ four 0x05060708 ++ four 9 ++ four 10) from no_record gives ended with jp2 no_image no_colour (typed 0x01020304 0x05060708) (lists (span 28 2) none none no_palette none none) (status 3 0 0 0) ∣
+    signed ++ ftyp_box (four 1 ++ four 2) from no_record gives ended with jp2 no_image no_colour (typed 1 2) (lists (span 28 0) none none no_palette none none) (status 3 0 0 0) ∣
     -- ihdr: its seven fields
-    start ++ jp2h_box (ihdr_box (four 0x01020304 ++ four 0x05060708 ++ two 0x0203 ++ 9 ∷ 10 ∷ 11 ∷ 12 ∷ [])) from no_record gives Ended with jp2 (image 0x01020304 0x05060708 0x0203 9 10 11 12) no_colour jp2_type unlisted (status 7 0 1 1) ∣
+    start ++ jp2h_box (ihdr_box (four 0x01020304 ++ four 0x05060708 ++ two 0x0203 ++ 9 ∷ 10 ∷ 11 ∷ 12 ∷ [])) from no_record gives ended with jp2 (image 0x01020304 0x05060708 0x0203 9 10 11 12) no_colour jp2_type unlisted (status 7 0 1 1) ∣
     -- grey
-    file (one ++ grey_box) from no_record gives Codestream 85 with jp2 small grey jp2_type unlisted reached ∣
+    file (one ++ grey_box) from no_record gives codestream 85 with jp2 small grey jp2_type unlisted reached ∣
     -- a further ihdr is skipped, whatever its length and its fields; a further jp2h has one of its own
-    file (one ++ ihdr_box [] ++ sized 9 9 9) from no_record gives Codestream 100 with jp2 small no_colour jp2_type unlisted reached ∣
-    start ++ jp2h_box one ++ jp2h_box (ihdr_box []) ++ jp2c_box from no_record gives Codestream 86 with jp2 small no_colour jp2_type unlisted reached ∣
+    file (one ++ ihdr_box [] ++ sized 9 9 9) from no_record gives codestream 100 with jp2 small no_colour jp2_type unlisted reached ∣
+    start ++ jp2h_box one ++ jp2h_box (ihdr_box []) ++ jp2c_box from no_record gives codestream 86 with jp2 small no_colour jp2_type unlisted reached ∣
     -- a further bpcc takes the place of the one before; an empty one before ihdr
-    file (one ++ bpcc_box (7 ∷ []) ++ bpcc_box (15 ∷ [])) from no_record gives Codestream 88 with jp2 small no_colour jp2_type (listed (span 79 1) none no_palette none none) reached ∣
-    file (bpcc_box [] ++ one) from no_record gives Codestream 78 with jp2 small no_colour jp2_type (listed (span 48 0) none no_palette none none) reached ∣
+    file (one ++ bpcc_box (7 ∷ []) ++ bpcc_box (15 ∷ [])) from no_record gives codestream 88 with jp2 small no_colour jp2_type (listed (span 79 1) none no_palette none none) reached ∣
+    file (bpcc_box [] ++ one) from no_record gives codestream 78 with jp2 small no_colour jp2_type (listed (span 48 0) none no_palette none none) reached ∣
     -- colr is held: METH 1, with bytes after EnumCS; CIELab with 28 bytes, none, and any other count; METH 2, with an empty profile too
-    file (one ++ colr_box (1 ∷ 2 ∷ 3 ∷ 1 ∷ 2 ∷ 3 ∷ 4 ∷ 5 ∷ [])) from no_record gives Codestream 86 with jp2 small (colour 1 2 3 0x01020304 no_lab 1) jp2_type unlisted reached ∣
-    file (one ++ colr_box (1 ∷ 2 ∷ 3 ∷ four 14 ++ four 21 ++ four 22 ++ four 23 ++ four 24 ++ four 25 ++ four 26 ++ four 27)) from no_record gives Codestream 113 with
+    file (one ++ colr_box (1 ∷ 2 ∷ 3 ∷ 1 ∷ 2 ∷ 3 ∷ 4 ∷ 5 ∷ [])) from no_record gives codestream 86 with jp2 small (colour 1 2 3 0x01020304 no_lab 1) jp2_type unlisted reached ∣
+    file (one ++ colr_box (1 ∷ 2 ∷ 3 ∷ four 14 ++ four 21 ++ four 22 ++ four 23 ++ four 24 ++ four 25 ++ four 26 ++ four 27)) from no_record gives codestream 113 with
     jp2 small (colour 1 2 3 14 (lab_of 14 0 21 22 23 24 25 26 27 9) 1) jp2_type unlisted reached ∣
-    file (one ++ colr_box (1 ∷ 2 ∷ 3 ∷ four 14)) from no_record gives Codestream 85 with jp2 small (colour 1 2 3 14 (lab_of 14 0 0 0 0 0 0 0x443530 0 8) 1) jp2_type unlisted reached ∣
-    file (one ++ colr_box (1 ∷ 2 ∷ 3 ∷ four 14 ++ replicate 27 1)) from no_record gives Codestream 112 with jp2 small (colour 1 2 3 14 (lab_of 14 0x44454600 0 0 0 0 0 0 0x443530 9) 1) jp2_type unlisted reached ∣
-    file (one ++ colr_box (2 ∷ 4 ∷ 5 ∷ 6 ∷ 7 ∷ 8 ∷ []) ++ grey_box) from no_record gives Codestream 99 with jp2 small (colour 2 4 5 0 no_lab 1) jp2_type (listed none (span 73 3) no_palette none none) reached ∣
-    file (one ++ colr_box (2 ∷ 4 ∷ 5 ∷ [])) from no_record gives Codestream 81 with jp2 small (colour 2 4 5 0 no_lab 1) jp2_type (listed none (span 73 0) no_palette none none) reached ∣
+    file (one ++ colr_box (1 ∷ 2 ∷ 3 ∷ four 14)) from no_record gives codestream 85 with jp2 small (colour 1 2 3 14 (lab_of 14 0 0 0 0 0 0 0x443530 0 8) 1) jp2_type unlisted reached ∣
+    file (one ++ colr_box (1 ∷ 2 ∷ 3 ∷ four 14 ++ replicate 27 1)) from no_record gives codestream 112 with jp2 small (colour 1 2 3 14 (lab_of 14 0x44454600 0 0 0 0 0 0 0x443530 9) 1) jp2_type unlisted reached ∣
+    file (one ++ colr_box (2 ∷ 4 ∷ 5 ∷ 6 ∷ 7 ∷ 8 ∷ []) ++ grey_box) from no_record gives codestream 99 with jp2 small (colour 2 4 5 0 no_lab 1) jp2_type (listed none (span 73 3) no_palette none none) reached ∣
+    file (one ++ colr_box (2 ∷ 4 ∷ 5 ∷ [])) from no_record gives codestream 81 with jp2 small (colour 2 4 5 0 no_lab 1) jp2_type (listed none (span 73 0) no_palette none none) reached ∣
     -- then later ones are skipped, METH 1 without EnumCS too
-    file (one ++ grey_box ++ colr_box (2 ∷ 4 ∷ 5 ∷ 6 ∷ []) ++ colr_box (1 ∷ 2 ∷ 3 ∷ four 14) ++ colr_box (1 ∷ 2 ∷ 3 ∷ [])) from no_record gives Codestream 123 with jp2 small grey jp2_type unlisted reached ∣
+    file (one ++ grey_box ++ colr_box (2 ∷ 4 ∷ 5 ∷ 6 ∷ []) ++ colr_box (1 ∷ 2 ∷ 3 ∷ four 14) ++ colr_box (1 ∷ 2 ∷ 3 ∷ [])) from no_record gives codestream 123 with jp2 small grey jp2_type unlisted reached ∣
     -- METH 0 or above 2 leaves three fields and holds nothing, so that the next colr is read
-    file (one ++ colr_box (0 ∷ 1 ∷ 2 ∷ [])) from no_record gives Codestream 81 with jp2 small (colour 0 1 2 0 no_lab 0) jp2_type unlisted reached ∣
-    file (one ++ colr_box (3 ∷ 1 ∷ 2 ∷ four 14)) from no_record gives Codestream 85 with jp2 small (colour 3 1 2 0 no_lab 0) jp2_type unlisted reached ∣
-    file (one ++ colr_box (255 ∷ 1 ∷ 2 ∷ [])) from no_record gives Codestream 81 with jp2 small (colour 255 1 2 0 no_lab 0) jp2_type unlisted reached ∣
-    file (one ++ colr_box (3 ∷ 1 ∷ 2 ∷ []) ++ grey_box) from no_record gives Codestream 96 with jp2 small grey jp2_type unlisted reached ∣
+    file (one ++ colr_box (0 ∷ 1 ∷ 2 ∷ [])) from no_record gives codestream 81 with jp2 small (colour 0 1 2 0 no_lab 0) jp2_type unlisted reached ∣
+    file (one ++ colr_box (3 ∷ 1 ∷ 2 ∷ four 14)) from no_record gives codestream 85 with jp2 small (colour 3 1 2 0 no_lab 0) jp2_type unlisted reached ∣
+    file (one ++ colr_box (255 ∷ 1 ∷ 2 ∷ [])) from no_record gives codestream 81 with jp2 small (colour 255 1 2 0 no_lab 0) jp2_type unlisted reached ∣
+    file (one ++ colr_box (3 ∷ 1 ∷ 2 ∷ []) ++ grey_box) from no_record gives codestream 96 with jp2 small grey jp2_type unlisted reached ∣
     -- each box changes its own part, and no other
-    signed from full_with (status 0 5 6 7) gives Ended with full_with (status 1 5 6 7) ∣
-    ftyp_box (four 1 ++ four 2 ++ four 3) from full_with (status 1 5 6 7) gives Ended with
+    signed from full_with (status 0 5 6 7) gives ended with full_with (status 1 5 6 7) ∣
+    ftyp_box (four 1 ++ four 2 ++ four 3) from full_with (status 1 5 6 7) gives ended with
     known large (typed 1 2) (lists (span 16 1) (span 63 64) (span 65 66) (palette 67 68 69) (span 70 71) (span 72 73)) (status 3 5 6 7) ∣
-    one from known no_image (typed 51 52) no_lists (status 4 5 6 7) gives Ended with known small (typed 51 52) no_lists (status 4 5 6 1) ∣
-    bpcc_box (1 ∷ 2 ∷ 3 ∷ []) from full_with (status 4 5 6 7) gives Ended with
+    one from known no_image (typed 51 52) no_lists (status 4 5 6 7) gives ended with known small (typed 51 52) no_lists (status 4 5 6 1) ∣
+    bpcc_box (1 ∷ 2 ∷ 3 ∷ []) from full_with (status 4 5 6 7) gives ended with
     known large (typed 51 52) (lists (span 61 62) (span 8 3) (span 65 66) (palette 67 68 69) (span 70 71) (span 72 73)) (status 4 5 6 7) ∣
-    pclr_box (two 1 ++ 2 ∷ 7 ∷ 7 ∷ 1 ∷ 1 ∷ []) from known large (typed 51 52) (lists (span 61 62) (span 63 64) (span 65 66) no_palette (span 70 71) (span 72 73)) (status 4 5 6 7) gives Ended with
+    pclr_box (two 1 ++ 2 ∷ 7 ∷ 7 ∷ 1 ∷ 1 ∷ []) from known large (typed 51 52) (lists (span 61 62) (span 63 64) (span 65 66) no_palette (span 70 71) (span 72 73)) (status 4 5 6 7) gives ended with
     known large (typed 51 52) (lists (span 61 62) (span 63 64) (span 65 66) (palette 11 1 2) (span 70 71) (span 72 73)) (status 4 5 6 7) ∣
-    cmap_box (replicate 8 0) from known large (typed 51 52) (lists (span 61 62) (span 63 64) (span 65 66) (palette 67 68 2) none (span 72 73)) (status 4 5 6 7) gives Ended with
+    cmap_box (replicate 8 0) from known large (typed 51 52) (lists (span 61 62) (span 63 64) (span 65 66) (palette 67 68 2) none (span 72 73)) (status 4 5 6 7) gives ended with
     known large (typed 51 52) (lists (span 61 62) (span 63 64) (span 65 66) (palette 67 68 2) (span 8 2) (span 72 73)) (status 4 5 6 7) ∣
-    cdef_box (two 1 ++ replicate 6 0) from known large (typed 51 52) (lists (span 61 62) (span 63 64) (span 65 66) (palette 67 68 69) (span 70 71) none) (status 4 5 6 7) gives Ended with
+    cdef_box (two 1 ++ replicate 6 0) from known large (typed 51 52) (lists (span 61 62) (span 63 64) (span 65 66) (palette 67 68 69) (span 70 71) none) (status 4 5 6 7) gives ended with
     known large (typed 51 52) (lists (span 61 62) (span 63 64) (span 65 66) (palette 67 68 69) (span 70 71) (span 10 1)) (status 4 5 6 7) ∣
     -- palette (two rows of 1, 2 and 1 bytes), mappings and definitions, the last two with a byte to spare; inside jp2h and behind it
-    file (one ++ pclr_box (two 2 ++ 3 ∷ 7 ∷ 15 ∷ 0x87 ∷ replicate 8 1) ++ cmap_box (replicate 13 0) ++ cdef_box (two 2 ++ replicate 13 0)) from no_record gives Codestream 136 with
+    file (one ++ pclr_box (two 2 ++ 3 ∷ 7 ∷ 15 ∷ 0x87 ∷ replicate 8 1) ++ cmap_box (replicate 13 0) ++ cdef_box (two 2 ++ replicate 13 0)) from no_record gives codestream 136 with
     jp2 small no_colour jp2_type (listed none none (palette 73 2 3) (span 92 3) (span 115 2)) reached ∣
-    start ++ jp2h_box one ++ pclr_box (two 2 ++ 3 ∷ 7 ∷ 15 ∷ 0x87 ∷ replicate 8 1) ++ cmap_box (replicate 12 0) ++ cdef_box (two 2 ++ replicate 12 0) ++ bpcc_box (7 ∷ []) ++ grey_box ++ jp2c_box from no_record gives Codestream 158 with
+    start ++ jp2h_box one ++ pclr_box (two 2 ++ 3 ∷ 7 ∷ 15 ∷ 0x87 ∷ replicate 8 1) ++ cmap_box (replicate 12 0) ++ cdef_box (two 2 ++ replicate 12 0) ++ bpcc_box (7 ∷ []) ++ grey_box ++ jp2c_box from no_record gives codestream 158 with
     jp2 small grey jp2_type (listed (span 134 1) none (palette 73 2 3) (span 92 3) (span 114 2)) reached ∣
     -- a child of another kind sets the unknown bits of the image state, and each jp2h clears them first; it does not touch the other bits and fields
-    file (other_boxes ++ jp_box [] ++ ftyp_box [] ++ jp2h_box [] ++ jp2c_box ++ one) from no_record gives Codestream 190 with jp2 small no_colour jp2_type unlisted (status 15 2147483647 1 1) ∣
-    start ++ jp2h_box (one ++ free_box) ++ jp2h_box (ihdr_box []) ++ jp2c_box from no_record gives Codestream 94 with jp2 small no_colour jp2_type unlisted reached ∣
-    jp2h_box (ihdr_box []) from full_with (status 2 4294967295 5 6) gives Ended with full_with (status 6 0 1 6) ∣
+    file (other_boxes ++ jp_box [] ++ ftyp_box [] ++ jp2h_box [] ++ jp2c_box ++ one) from no_record gives codestream 190 with jp2 small no_colour jp2_type unlisted (status 15 2147483647 1 1) ∣
+    start ++ jp2h_box (one ++ free_box) ++ jp2h_box (ihdr_box []) ++ jp2c_box from no_record gives codestream 94 with jp2 small no_colour jp2_type unlisted reached ∣
+    jp2h_box (ihdr_box []) from full_with (status 2 4294967295 5 6) gives ended with full_with (status 6 0 1 6) ∣
     -- a box of the file that is not read sets the unknown bits of the state, and keeps bit 31
-    start ++ other_boxes ++ jp2c_box from no_record gives Codestream 128 with jp2 no_image no_colour jp2_type unlisted (status 2147483647 0 0 0) ∣
-    free_box from full_with (status 2147483651 5 6 7) gives Ended with full_with (status 4294967295 5 6 7) ∣
+    start ++ other_boxes ++ jp2c_box from no_record gives codestream 128 with jp2 no_image no_colour jp2_type unlisted (status 2147483647 0 0 0) ∣
+    free_box from full_with (status 2147483651 5 6 7) gives ended with full_with (status 4294967295 5 6 7) ∣
     -- and so does a box of jp2h outside it before the header bit: it is not read, and asks for no signature
-    ihdr_box [] ++ jp2c_box from no_record gives Codestream 16 with jp2 no_image no_colour (typed 0 0) no_lists (status 2147483647 0 0 0) ∣
-    bpcc_box [] from no_record gives Ended with jp2 no_image no_colour (typed 0 0) no_lists (status 2147483647 0 0 0) ∣
-    grey_box ++ jp2c_box from no_record gives Codestream 23 with jp2 no_image no_colour (typed 0 0) no_lists (status 2147483647 0 0 0) ∣
-    pclr_box [] from no_record gives Ended with jp2 no_image no_colour (typed 0 0) no_lists (status 2147483647 0 0 0) ∣
-    cmap_box [] from no_record gives Ended with jp2 no_image no_colour (typed 0 0) no_lists (status 2147483647 0 0 0) ∣
-    cdef_box [] from no_record gives Ended with jp2 no_image no_colour (typed 0 0) no_lists (status 2147483647 0 0 0) ∣
-    colr_box [] from full_with (status 2147483651 5 6 7) gives Ended with full_with (status 4294967295 5 6 7) ∣
+    ihdr_box [] ++ jp2c_box from no_record gives codestream 16 with jp2 no_image no_colour (typed 0 0) no_lists (status 2147483647 0 0 0) ∣
+    bpcc_box [] from no_record gives ended with jp2 no_image no_colour (typed 0 0) no_lists (status 2147483647 0 0 0) ∣
+    grey_box ++ jp2c_box from no_record gives codestream 23 with jp2 no_image no_colour (typed 0 0) no_lists (status 2147483647 0 0 0) ∣
+    pclr_box [] from no_record gives ended with jp2 no_image no_colour (typed 0 0) no_lists (status 2147483647 0 0 0) ∣
+    cmap_box [] from no_record gives ended with jp2 no_image no_colour (typed 0 0) no_lists (status 2147483647 0 0 0) ∣
+    cdef_box [] from no_record gives ended with jp2 no_image no_colour (typed 0 0) no_lists (status 2147483647 0 0 0) ∣
+    colr_box [] from full_with (status 2147483651 5 6 7) gives ended with full_with (status 4294967295 5 6 7) ∣
     -- after it the next one is read: hasihdr without hasjp2h
-    start ++ free_box ++ one ++ jp2c_box from no_record gives Codestream 70 with jp2 small no_colour jp2_type unlisted (status 2147483647 0 0 1) ∣
+    start ++ free_box ++ one ++ jp2c_box from no_record gives codestream 70 with jp2 small no_colour jp2_type unlisted (status 2147483647 0 0 1) ∣
     -- the codestream bit, where it is set already too; the length is not looked at
-    jp2c_box from full_with (status 4 5 6 7) gives Codestream 8 with full_with (status 12 5 6 7) ∣
-    jp2c_box from full_with (status 2147483660 5 6 7) gives Codestream 8 with full_with (status 2147483660 5 6 7) ∣
-    four 0 ++ four 0x6a703263 from full_with (status 4 5 6 7) gives Codestream 8 with full_with (status 12 5 6 7) ∣
-    four 3 ++ four 0x6a703263 from full_with (status 4 5 6 7) gives Codestream 8 with full_with (status 12 5 6 7) ∣
-    four 4294967295 ++ four 0x6a703263 from full_with (status 4 5 6 7) gives Codestream 8 with full_with (status 12 5 6 7) ∣
-    extended_header 0x6a703263 0 0 from full_with (status 4 5 6 7) gives Codestream 16 with full_with (status 12 5 6 7) ∣
-    extended_header 0x6a703263 0 4294967295 from full_with (status 4 5 6 7) gives Codestream 16 with full_with (status 12 5 6 7) ∣
+    jp2c_box from full_with (status 4 5 6 7) gives codestream 8 with full_with (status 12 5 6 7) ∣
+    jp2c_box from full_with (status 2147483660 5 6 7) gives codestream 8 with full_with (status 2147483660 5 6 7) ∣
+    four 0 ++ four 0x6a703263 from full_with (status 4 5 6 7) gives codestream 8 with full_with (status 12 5 6 7) ∣
+    four 3 ++ four 0x6a703263 from full_with (status 4 5 6 7) gives codestream 8 with full_with (status 12 5 6 7) ∣
+    four 4294967295 ++ four 0x6a703263 from full_with (status 4 5 6 7) gives codestream 8 with full_with (status 12 5 6 7) ∣
+    extended_header 0x6a703263 0 0 from full_with (status 4 5 6 7) gives codestream 16 with full_with (status 12 5 6 7) ∣
+    extended_header 0x6a703263 0 4294967295 from full_with (status 4 5 6 7) gives codestream 16 with full_with (status 12 5 6 7) ∣
     -- a high word, and a header that is cut, end the walk before the box is looked at
-    extended_header 0x6a703263 1 0 from full_with (status 4 5 6 7) gives Ended with full_with (status 4 5 6 7) ∣
-    extended_header 0x66726565 0 4294967295 from full_with (status 3 5 6 7) gives Ended with full_with (status 2147483647 5 6 7) ∣
-    extended_header 0x66726565 1 0 from full_with (status 3 5 6 7) gives Ended with full_with (status 3 5 6 7) ∣
-    0 ∷ 0 ∷ 0 ∷ 8 ∷ 0x66 ∷ 0x72 ∷ 0x65 ∷ [] from full_with (status 3 5 6 7) gives Ended with full_with (status 3 5 6 7) ∣
-    four 1 ++ four 0x66726565 ++ replicate 7 0 from full_with (status 3 5 6 7) gives Ended with full_with (status 3 5 6 7) ∣
+    extended_header 0x6a703263 1 0 from full_with (status 4 5 6 7) gives ended with full_with (status 4 5 6 7) ∣
+    extended_header 0x66726565 0 4294967295 from full_with (status 3 5 6 7) gives ended with full_with (status 2147483647 5 6 7) ∣
+    extended_header 0x66726565 1 0 from full_with (status 3 5 6 7) gives ended with full_with (status 3 5 6 7) ∣
+    0 ∷ 0 ∷ 0 ∷ 8 ∷ 0x66 ∷ 0x72 ∷ 0x65 ∷ [] from full_with (status 3 5 6 7) gives ended with full_with (status 3 5 6 7) ∣
+    four 1 ++ four 0x66726565 ++ replicate 7 0 from full_with (status 3 5 6 7) gives ended with full_with (status 3 5 6 7) ∣
     -- a box to the end of the file, and one past it
-    four 0 ++ four 0x66726565 ++ 1 ∷ [] from full_with (status 3 5 6 7) gives Ended with full_with (status 2147483647 5 6 7) ∣
-    start ++ four 0 ++ four 0x6a703268 ++ one from no_record gives Ended with jp2 small no_colour jp2_type unlisted (status 7 0 1 1) ∣
-    four 9 ++ four 0x66726565 from full_with (status 3 5 6 7) gives Ended with full_with (status 2147483647 5 6 7) ∣
+    four 0 ++ four 0x66726565 ++ 1 ∷ [] from full_with (status 3 5 6 7) gives ended with full_with (status 2147483647 5 6 7) ∣
+    start ++ four 0 ++ four 0x6a703268 ++ one from no_record gives ended with jp2 small no_colour jp2_type unlisted (status 7 0 1 1) ∣
+    four 9 ++ four 0x66726565 from full_with (status 3 5 6 7) gives ended with full_with (status 2147483647 5 6 7) ∣
     end
 
 -- files that are refused, each number of document 01 for reading but 1; the record stays
 abbrev pub refused_files : Cases
 refused_files =
     -- 2: the codestream before the header bit
-    start ++ jp2c_box from no_record gives Refused 2 32 with no_record ∣
-    jp2c_box from full_with (status 2147483643 5 6 7) gives Refused 2 0 with full_with (status 2147483643 5 6 7) ∣
+    start ++ jp2c_box from no_record gives refuses 2 32 with no_record ∣
+    jp2c_box from full_with (status 2147483643 5 6 7) gives refuses 2 0 with full_with (status 2147483643 5 6 7) ∣
     -- 3: a length below the header's own
-    start ++ four 7 ++ four 0x66726565 from no_record gives Refused 3 32 with no_record ∣
-    start ++ four 2 ++ four 0x6a703268 from no_record gives Refused 3 32 with no_record ∣
-    start ++ extended_header 0x66726565 0 15 from no_record gives Refused 3 32 with no_record ∣
-    start ++ extended_header 0x66726565 0 0 from no_record gives Refused 3 32 with no_record ∣
+    start ++ four 7 ++ four 0x66726565 from no_record gives refuses 3 32 with no_record ∣
+    start ++ four 2 ++ four 0x6a703268 from no_record gives refuses 3 32 with no_record ∣
+    start ++ extended_header 0x66726565 0 15 from no_record gives refuses 3 32 with no_record ∣
+    start ++ extended_header 0x66726565 0 0 from no_record gives refuses 3 32 with no_record ∣
     -- 4: a box that is read reaches past the file, whatever the state
-    four 13 ++ four 0x6a502020 ++ four 0x0d0a870a from no_record gives Refused 4 0 with no_record ∣
-    signed ++ four 17 ++ four 0x66747970 ++ four 1 ++ four 2 from no_record gives Refused 4 12 with no_record ∣
-    start ++ four 31 ++ four 0x6a703268 ++ one from no_record gives Refused 4 32 with no_record ∣
-    four 9 ++ four 0x6a703268 from no_record gives Refused 4 0 with no_record ∣
-    four 9 ++ four 0x69686472 from no_record gives Refused 4 0 with no_record ∣
-    four 9 ++ four 0x62706363 from no_record gives Refused 4 0 with no_record ∣
-    four 9 ++ four 0x636f6c72 from no_record gives Refused 4 0 with no_record ∣
-    four 9 ++ four 0x70636c72 from no_record gives Refused 4 0 with no_record ∣
-    four 9 ++ four 0x636d6170 from no_record gives Refused 4 0 with no_record ∣
-    four 9 ++ four 0x63646566 from no_record gives Refused 4 0 with no_record ∣
+    four 13 ++ four 0x6a502020 ++ four 0x0d0a870a from no_record gives refuses 4 0 with no_record ∣
+    signed ++ four 17 ++ four 0x66747970 ++ four 1 ++ four 2 from no_record gives refuses 4 12 with no_record ∣
+    start ++ four 31 ++ four 0x6a703268 ++ one from no_record gives refuses 4 32 with no_record ∣
+    four 9 ++ four 0x6a703268 from no_record gives refuses 4 0 with no_record ∣
+    four 9 ++ four 0x69686472 from no_record gives refuses 4 0 with no_record ∣
+    four 9 ++ four 0x62706363 from no_record gives refuses 4 0 with no_record ∣
+    four 9 ++ four 0x636f6c72 from no_record gives refuses 4 0 with no_record ∣
+    four 9 ++ four 0x70636c72 from no_record gives refuses 4 0 with no_record ∣
+    four 9 ++ four 0x636d6170 from no_record gives refuses 4 0 with no_record ∣
+    four 9 ++ four 0x63646566 from no_record gives refuses 4 0 with no_record ∣
     -- 5, 6: any other box before signature and file type, past the end too
-    free_box from no_record gives Refused 5 0 with no_record ∣
-    four 9 ++ four 0x66726565 from no_record gives Refused 5 0 with no_record ∣
-    free_box from full_with (status 2147483646 5 6 7) gives Refused 5 0 with full_with (status 2147483646 5 6 7) ∣
-    signed ++ free_box from no_record gives Refused 6 12 with no_record ∣
-    free_box from full_with (status 2147483645 5 6 7) gives Refused 6 0 with full_with (status 2147483645 5 6 7) ∣
+    free_box from no_record gives refuses 5 0 with no_record ∣
+    four 9 ++ four 0x66726565 from no_record gives refuses 5 0 with no_record ∣
+    free_box from full_with (status 2147483646 5 6 7) gives refuses 5 0 with full_with (status 2147483646 5 6 7) ∣
+    signed ++ free_box from no_record gives refuses 6 12 with no_record ∣
+    free_box from full_with (status 2147483645 5 6 7) gives refuses 6 0 with full_with (status 2147483645 5 6 7) ∣
     -- 7: jP where the state is not 0, not of 4 bytes, or of other bytes
-    signed ++ signed from no_record gives Refused 7 12 with no_record ∣
-    jp_box (0x0d ∷ 0x0a ∷ 0x87 ∷ []) from no_record gives Refused 7 0 with no_record ∣
-    jp_box (0x0d ∷ 0x0a ∷ 0x87 ∷ 0x0a ∷ 0 ∷ []) from no_record gives Refused 7 0 with no_record ∣
-    jp_box (0x0d ∷ 0x0a ∷ 0x87 ∷ 0x0b ∷ []) from no_record gives Refused 7 0 with no_record ∣
+    signed ++ signed from no_record gives refuses 7 12 with no_record ∣
+    jp_box (0x0d ∷ 0x0a ∷ 0x87 ∷ []) from no_record gives refuses 7 0 with no_record ∣
+    jp_box (0x0d ∷ 0x0a ∷ 0x87 ∷ 0x0a ∷ 0 ∷ []) from no_record gives refuses 7 0 with no_record ∣
+    jp_box (0x0d ∷ 0x0a ∷ 0x87 ∷ 0x0b ∷ []) from no_record gives refuses 7 0 with no_record ∣
     -- 8: ftyp where the state is not 1, under 8 bytes, or not in fours
-    ftyp_box (four 1 ++ four 2) from no_record gives Refused 8 0 with no_record ∣
-    start ++ ftyp_box (four 1 ++ four 2) from no_record gives Refused 8 32 with no_record ∣
-    signed ++ ftyp_box (four 1) from no_record gives Refused 8 12 with no_record ∣
-    signed ++ ftyp_box (four 1 ++ four 2 ++ 0 ∷ 0 ∷ []) from no_record gives Refused 8 12 with no_record ∣
+    ftyp_box (four 1 ++ four 2) from no_record gives refuses 8 0 with no_record ∣
+    start ++ ftyp_box (four 1 ++ four 2) from no_record gives refuses 8 32 with no_record ∣
+    signed ++ ftyp_box (four 1) from no_record gives refuses 8 12 with no_record ∣
+    signed ++ ftyp_box (four 1 ++ four 2 ++ 0 ∷ 0 ∷ []) from no_record gives refuses 8 12 with no_record ∣
     -- 9: jp2h before the file type
-    signed ++ jp2h_box one from no_record gives Refused 9 12 with no_record ∣
-    signed ++ jp2h_box (0 ∷ []) from no_record gives Refused 9 12 with no_record ∣
-    jp2h_box one from full_with (status 2147483645 5 6 7) gives Refused 9 0 with full_with (status 2147483645 5 6 7) ∣
+    signed ++ jp2h_box one from no_record gives refuses 9 12 with no_record ∣
+    signed ++ jp2h_box (0 ∷ []) from no_record gives refuses 9 12 with no_record ∣
+    jp2h_box one from full_with (status 2147483645 5 6 7) gives refuses 9 0 with full_with (status 2147483645 5 6 7) ∣
     -- 10: a child's header is cut by jp2h's end, its length is 0, or it has a high word
-    file (one ++ 0 ∷ 0 ∷ 0 ∷ 8 ∷ 0x66 ∷ 0x72 ∷ 0x65 ∷ []) from no_record gives Refused 10 62 with no_record ∣
-    file (one ++ four 1 ++ four 0x66726565 ++ replicate 7 0) from no_record gives Refused 10 62 with no_record ∣
-    file (one ++ four 0 ++ four 0x66726565) from no_record gives Refused 10 62 with no_record ∣
-    file (one ++ extended_header 0x66726565 1 16) from no_record gives Refused 10 62 with no_record ∣
+    file (one ++ 0 ∷ 0 ∷ 0 ∷ 8 ∷ 0x66 ∷ 0x72 ∷ 0x65 ∷ []) from no_record gives refuses 10 62 with no_record ∣
+    file (one ++ four 1 ++ four 0x66726565 ++ replicate 7 0) from no_record gives refuses 10 62 with no_record ∣
+    file (one ++ four 0 ++ four 0x66726565) from no_record gives refuses 10 62 with no_record ∣
+    file (one ++ extended_header 0x66726565 1 16) from no_record gives refuses 10 62 with no_record ∣
     -- 11: a child's length is below its header's, or past jp2h
-    file (one ++ four 7 ++ four 0x66726565) from no_record gives Refused 11 62 with no_record ∣
-    file (one ++ extended_header 0x66726565 0 15) from no_record gives Refused 11 62 with no_record ∣
-    file (one ++ extended_header 0x66726565 0 4294967295) from no_record gives Refused 11 62 with no_record ∣
-    file (one ++ four 9 ++ four 0x66726565) from no_record gives Refused 11 62 with no_record ∣
+    file (one ++ four 7 ++ four 0x66726565) from no_record gives refuses 11 62 with no_record ∣
+    file (one ++ extended_header 0x66726565 0 15) from no_record gives refuses 11 62 with no_record ∣
+    file (one ++ extended_header 0x66726565 0 4294967295) from no_record gives refuses 11 62 with no_record ∣
+    file (one ++ four 9 ++ four 0x66726565) from no_record gives refuses 11 62 with no_record ∣
     -- 12: jp2h has no ihdr of its own
-    file [] from no_record gives Refused 12 32 with no_record ∣
-    file (0 ∷ []) from no_record gives Refused 10 40 with no_record ∣
-    file (grey_box ++ free_box) from no_record gives Refused 12 32 with no_record ∣
-    start ++ jp2h_box one ++ jp2h_box grey_box from no_record gives Refused 12 62 with no_record ∣
+    file [] from no_record gives refuses 12 32 with no_record ∣
+    file (0 ∷ []) from no_record gives refuses 10 40 with no_record ∣
+    file (grey_box ++ free_box) from no_record gives refuses 12 32 with no_record ∣
+    start ++ jp2h_box one ++ jp2h_box grey_box from no_record gives refuses 12 62 with no_record ∣
     -- 13: ihdr is not of 14 bytes
-    file (ihdr_box []) from no_record gives Refused 13 40 with no_record ∣
-    file (ihdr_box (replicate 13 1)) from no_record gives Refused 13 40 with no_record ∣
-    file (free_box ++ ihdr_box (replicate 15 1)) from no_record gives Refused 13 48 with no_record ∣
+    file (ihdr_box []) from no_record gives refuses 13 40 with no_record ∣
+    file (ihdr_box (replicate 13 1)) from no_record gives refuses 13 40 with no_record ∣
+    file (free_box ++ ihdr_box (replicate 15 1)) from no_record gives refuses 13 48 with no_record ∣
     -- 14, 15: zero height, width or count; a count over 16384
-    file (sized 0 2 16385) from no_record gives Refused 14 40 with no_record ∣
-    file (sized 3 0 16385) from no_record gives Refused 14 40 with no_record ∣
-    file (sized 3 2 0) from no_record gives Refused 14 40 with no_record ∣
-    file (sized 3 2 16385) from no_record gives Refused 15 40 with no_record ∣
+    file (sized 0 2 16385) from no_record gives refuses 14 40 with no_record ∣
+    file (sized 3 0 16385) from no_record gives refuses 14 40 with no_record ∣
+    file (sized 3 2 0) from no_record gives refuses 14 40 with no_record ∣
+    file (sized 3 2 16385) from no_record gives refuses 15 40 with no_record ∣
     -- 16: colr of under 3 bytes, even when a colour is held; METH 1 with under 4 left
-    file (one ++ colr_box (3 ∷ 0 ∷ [])) from no_record gives Refused 16 62 with no_record ∣
-    file (one ++ grey_box ++ colr_box (3 ∷ 0 ∷ [])) from no_record gives Refused 16 77 with no_record ∣
-    file (one ++ colr_box (1 ∷ 0 ∷ 0 ∷ 0 ∷ 0 ∷ 0 ∷ [])) from no_record gives Refused 16 62 with no_record ∣
+    file (one ++ colr_box (3 ∷ 0 ∷ [])) from no_record gives refuses 16 62 with no_record ∣
+    file (one ++ grey_box ++ colr_box (3 ∷ 0 ∷ [])) from no_record gives refuses 16 77 with no_record ∣
+    file (one ++ colr_box (1 ∷ 0 ∷ 0 ∷ 0 ∷ 0 ∷ 0 ∷ [])) from no_record gives refuses 16 62 with no_record ∣
     -- 17: bpcc is not as long as the count
-    file (one ++ bpcc_box []) from no_record gives Refused 17 62 with no_record ∣
-    file (one ++ bpcc_box (7 ∷ 7 ∷ [])) from no_record gives Refused 17 62 with no_record ∣
-    file (bpcc_box (7 ∷ []) ++ one) from no_record gives Refused 17 40 with no_record ∣
+    file (one ++ bpcc_box []) from no_record gives refuses 17 62 with no_record ∣
+    file (one ++ bpcc_box (7 ∷ 7 ∷ [])) from no_record gives refuses 17 62 with no_record ∣
+    file (bpcc_box (7 ∷ []) ++ one) from no_record gives refuses 17 40 with no_record ∣
     -- 18, 20, 19, 20: pclr
-    pclr_box [] from full_with (status 7 5 6 7) gives Refused 18 0 with full_with (status 7 5 6 7) ∣
-    file (one ++ pclr_box (0 ∷ 0 ∷ [])) from no_record gives Refused 20 62 with no_record ∣
-    file (one ++ pclr_box (0 ∷ 0 ∷ 1 ∷ [])) from no_record gives Refused 19 62 with no_record ∣
-    file (one ++ pclr_box (4 ∷ 1 ∷ 1 ∷ [])) from no_record gives Refused 19 62 with no_record ∣
-    file (one ++ pclr_box (0 ∷ 1 ∷ 0 ∷ [])) from no_record gives Refused 19 62 with no_record ∣
-    file (one ++ pclr_box (0 ∷ 1 ∷ 1 ∷ [])) from no_record gives Refused 20 62 with no_record ∣
-    file (one ++ pclr_box (two 2 ++ 3 ∷ 7 ∷ 15 ∷ 0x87 ∷ replicate 7 1)) from no_record gives Refused 20 62 with no_record ∣
+    pclr_box [] from full_with (status 7 5 6 7) gives refuses 18 0 with full_with (status 7 5 6 7) ∣
+    file (one ++ pclr_box (0 ∷ 0 ∷ [])) from no_record gives refuses 20 62 with no_record ∣
+    file (one ++ pclr_box (0 ∷ 0 ∷ 1 ∷ [])) from no_record gives refuses 19 62 with no_record ∣
+    file (one ++ pclr_box (4 ∷ 1 ∷ 1 ∷ [])) from no_record gives refuses 19 62 with no_record ∣
+    file (one ++ pclr_box (0 ∷ 1 ∷ 0 ∷ [])) from no_record gives refuses 19 62 with no_record ∣
+    file (one ++ pclr_box (0 ∷ 1 ∷ 1 ∷ [])) from no_record gives refuses 20 62 with no_record ∣
+    file (one ++ pclr_box (two 2 ++ 3 ∷ 7 ∷ 15 ∷ 0x87 ∷ replicate 7 1)) from no_record gives refuses 20 62 with no_record ∣
     -- 21, 18, 22: cmap
-    file (one ++ cmap_box []) from no_record gives Refused 21 62 with no_record ∣
-    cmap_box [] from known large (typed 51 52) (lists none none none no_palette (span 70 71) none) (status 4 5 6 7) gives Refused 21 0 with known large (typed 51 52) (lists none none none no_palette (span 70 71) none) (status 4 5 6 7) ∣
-    cmap_box [] from full_with (status 7 5 6 7) gives Refused 18 0 with full_with (status 7 5 6 7) ∣
-    file (one ++ pclr_box (two 1 ++ 2 ∷ 7 ∷ 7 ∷ 1 ∷ 1 ∷ []) ++ cmap_box (replicate 7 0)) from no_record gives Refused 22 77 with no_record ∣
+    file (one ++ cmap_box []) from no_record gives refuses 21 62 with no_record ∣
+    cmap_box [] from known large (typed 51 52) (lists none none none no_palette (span 70 71) none) (status 4 5 6 7) gives refuses 21 0 with known large (typed 51 52) (lists none none none no_palette (span 70 71) none) (status 4 5 6 7) ∣
+    cmap_box [] from full_with (status 7 5 6 7) gives refuses 18 0 with full_with (status 7 5 6 7) ∣
+    file (one ++ pclr_box (two 1 ++ 2 ∷ 7 ∷ 7 ∷ 1 ∷ 1 ∷ []) ++ cmap_box (replicate 7 0)) from no_record gives refuses 22 77 with no_record ∣
     -- 18, 23, 24, 23: cdef
-    cdef_box [] from full_with (status 7 5 6 7) gives Refused 18 0 with full_with (status 7 5 6 7) ∣
-    file (one ++ cdef_box (0 ∷ [])) from no_record gives Refused 23 62 with no_record ∣
-    file (one ++ cdef_box (0 ∷ 0 ∷ [])) from no_record gives Refused 24 62 with no_record ∣
-    file (one ++ cdef_box (two 2 ++ replicate 11 0)) from no_record gives Refused 23 62 with no_record ∣
+    cdef_box [] from full_with (status 7 5 6 7) gives refuses 18 0 with full_with (status 7 5 6 7) ∣
+    file (one ++ cdef_box (0 ∷ [])) from no_record gives refuses 23 62 with no_record ∣
+    file (one ++ cdef_box (0 ∷ 0 ∷ [])) from no_record gives refuses 24 62 with no_record ∣
+    file (one ++ cdef_box (two 2 ++ replicate 11 0)) from no_record gives refuses 23 62 with no_record ∣
     -- a refusal after boxes that were read
-    jp2h_box (ihdr_box [] ++ free_box ++ bpcc_box (1 ∷ 2 ∷ 3 ∷ []) ++ colr_box []) from full_with (status 7 5 6 7) gives Refused 16 35 with full_with (status 7 5 6 7) ∣
+    jp2h_box (ihdr_box [] ++ free_box ++ bpcc_box (1 ∷ 2 ∷ 3 ∷ []) ++ colr_box []) from full_with (status 7 5 6 7) gives refuses 16 35 with full_with (status 7 5 6 7) ∣
     end
 
-abbrev pub results : Cases → List Reading
+-- the answer, and the record that a caller has after it
+abbrev pub results : Cases → List (Walked × Jp2)
 results end = []
-results (f from j gives a with m ∣ rest) = reading j (walk f j) ∷ results rest
+results (f from j gives a with m ∣ rest) = (walk f j, after j (walk f j)) ∷ results rest
 
-abbrev pub expected : Cases → List Reading
+abbrev pub expected : Cases → List (Walked × Jp2)
 expected end = []
-expected (f from j gives a with m ∣ rest) = record { answer = a; jp2 = m } ∷ expected rest
+expected (f from j gives a with m ∣ rest) = (a m, m) ∷ expected rest
 
 pub read_files_lem : results read_files ≡ expected read_files
-unfolding table number part kind_of length_of_header box_length with_bit signature file_type ihdr bpcc lab colr entry_bytes row_bytes pclr cmap cdef split read_all lacks_ihdr jp2h outer run walk reading
+unfolding table number part kind_of length_of_header box_length with_bit signature file_type ihdr bpcc lab colr entry_bytes row_bytes pclr cmap cdef split read_all lacks_ihdr jp2h outer run walk after
 read_files_lem = refl
 
 pub refused_files_lem : results refused_files ≡ expected refused_files
-unfolding table number part kind_of length_of_header box_length with_bit signature file_type ihdr bpcc lab colr entry_bytes row_bytes pclr cmap cdef split read_all lacks_ihdr jp2h outer run walk reading
+unfolding table number part kind_of length_of_header box_length with_bit signature file_type ihdr bpcc lab colr entry_bytes row_bytes pclr cmap cdef split read_all lacks_ihdr jp2h outer run walk after
 refused_files_lem = refl
 
 -- a box of jp2h that is read alone: one of another kind keeps bit 31 of the image state; a content may end at 4294967295, and not behind it
 pub alone :
-    (answer (full_with (status 1 2147483653 2 3)) (header_box (Unknown 1) 0 4294967295 [] (full_with (status 1 2147483653 2 3))) ≡ record { answer = Done; jp2 = full_with (status 1 4294967295 2 3) })
+    (header_box (Unknown 1) 0 4294967295 [] (full_with (status 1 2147483653 2 3)) ≡ accepted (full_with (status 1 4294967295 2 3)))
     × (header_box (Unknown 1) 5 4294967295 (0 ∷ []) no_record ≡ refused 4 5)
     × (jp2h_alone 5 4294967295 [] (full_with (status 2 3 4 5)) ≡ refused 12 5)
     × (jp2h_alone 5 4294967295 (0 ∷ []) (full_with (status 2 3 4 5)) ≡ refused 4 5)
-unfolding table number length_of_header box_length split read_all lacks_ihdr jp2h header_box jp2h_alone answer
+unfolding table number length_of_header box_length split read_all lacks_ihdr jp2h header_box jp2h_alone
 alone = (refl, refl, refl, refl)
 
 -- the record before any box

@@ -3,17 +3,16 @@
 
 use read_record::Jp2;
 
-// What reading a file answers: the codestream's offset, "ended", or document 01's number and the place.
-#[derive(Clone, Copy)]
-pub enum FileAnswer {
+// Where reading a file ended: at the codestream, with its offset, or at the end of the file.
+#[derive(Clone, Copy, Debug, PartialEq, Eq)]
+pub enum FileEnd {
     Codestream(u32),
     Ended,
-    Refused(u32, u32),
 }
 
-// An answer and the record after it.
+// Where it ended, and the record then. A file that is refused has neither: its answer is an error.
 #[derive(Clone, Copy)]
 pub struct Reading {
-    pub answer: FileAnswer,
+    pub end: FileEnd,
     pub jp2: Jp2,
 }

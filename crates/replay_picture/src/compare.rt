@@ -1,9 +1,10 @@
 // Compares a picture's answer and destinations with the list. Prints the first difference.
-ghost use Rattle.std.specs.Prelude.{◌≡◌, length};
-ghost use Rattle.box_number.specs.Lowest.{lowest};
-ghost use Rattle.replay_picture.specs.Private.Compared.{answer_differs, record_differs, sample_differs, answer_length, differing, count_of};
+ghost use Rattle.std.specs.Prelude.{◌≡◌, ◌<◌, None, length};
+ghost use Rattle.box_number.specs.Table.{holds};
+ghost use Rattle.replay_picture.specs.Private.Compared.{first, answer_differs, element_differs, answer_length, count_of};
 
-use crate::{list, put};
+use crate::list;
+use crate::put::{self, Element};
 use test_lines::{at, say};
 
 // How many numbers an answer has, and the position of document 01's.
@@ -11,10 +12,7 @@ const ANSWER_LENGTH: usize = 4;
 
 const ANSWER_NUMBER: usize = 1;
 
-// The count of the tally for pictures that differ.
-const DIFFERING: usize = 31;
-
-// The count of the tally for picture i: DIFFERING where it differs or the list has ended, else 0 or the number of the refusal.
+// The count of the tally for picture i: 0 or the number of the refusal, and none where it differs or the list has ended.
 pub(crate) fn outcome(
     rt: &impl Print,
     i: u32,
@@ -22,72 +20,48 @@ pub(crate) fn outcome(
     answer: &[u64],
     records: &[u32],
     planes: &[i32],
-) -> usize
+) -> Option<usize>
     ensures { result ≡ count_of picture.now answer.now records.now planes.now }
 {
-    if picture.len() == 0 {
+    if picture.is_empty() {
         return differs(rt, b"case #: the list has ended\n", i, 0);
     }
-    let a = first_number(picture, answer);
-    if a < ANSWER_LENGTH {
-        return differs(rt, b"case #: the answer differs at #\n", i, a);
+    if let Some(k) = first_number(picture, answer) {
+        return differs(rt, b"case #: the answer differs at #\n", i, k);
     }
-    let r = first_record(list::records(picture), records);
-    if r < records.len() {
-        return differs(rt, b"case #: the records differ at #\n", i, r);
+    if let Some(k) = first_element(list::records(picture), records) {
+        return differs(rt, b"case #: the records differ at #\n", i, k);
     }
-    let s = first_sample(list::numbers(list::planes(picture)), planes);
-    if s < planes.len() {
-        return differs(rt, b"case #: the samples differ at #\n", i, s);
+    if let Some(k) = first_element(list::numbers(list::planes(picture)), planes) {
+        return differs(rt, b"case #: the samples differ at #\n", i, k);
     }
-    at(answer, ANSWER_NUMBER) as usize
+    Some(at(answer, ANSWER_NUMBER) as usize)
 }
 
-fn differs(rt: &impl Print, shape: &[u8], i: u32, k: usize) -> usize
-    ensures { result ≡ differing }
+fn differs(rt: &impl Print, shape: &[u8], i: u32, k: usize) -> Option<usize>
+    ensures { result ≡ None }
 {
     say(rt, shape, &[i as usize, k]);
-    DIFFERING
+    None
 }
 
-// The first number of the answer that differs, 4 where none does.
-fn first_number(picture: &[u8], answer: &[u64]) -> usize
-    ensures { result ≡ lowest (answer_differs picture.now answer.now) answer_length }
+// The first number of the answer that differs.
+fn first_number(picture: &[u8], answer: &[u64]) -> Option<usize>
+    ensures { result ≡ first (answer_differs picture.now answer.now) answer_length }
 {
-    let mut k = 0;
-    while k < ANSWER_LENGTH {
-        if at(answer, k) != list::answer_number(picture, k) {
-            return k;
-        }
-        k = k + 1;
-    }
-    k
+    (0..ANSWER_LENGTH).find(|k| at(answer, *k) != list::answer_number(picture, *k))
 }
 
-// The first record that differs, of those behind the picture too; all where none does.
-fn first_record(listed: &[u8], records: &[u32]) -> usize
-    ensures { result ≡ lowest (record_differs listed.now records.now) (length records.now) }
+// The first record or sample that differs, of those behind the picture too.
+fn first_element<T: Element>(listed: &[u8], found: &[T]) -> Option<usize>
+    ensures { result ≡ first (element_differs T.bits listed.now found.now) (length found.now) }
 {
-    let mut k = 0;
-    while k < records.len() {
-        if records[k] != put::expected(listed, k) {
-            return k;
-        }
-        k = k + 1;
-    }
-    k
+    (0..found.len()).find(|k| differs_at(listed, found, *k))
 }
 
-// The first sample that differs, in the same way.
-fn first_sample(listed: &[u8], planes: &[i32]) -> usize
-    ensures { result ≡ lowest (sample_differs listed.now planes.now) (length planes.now) }
+fn differs_at<T: Element>(listed: &[u8], found: &[T], k: usize) -> bool
+    requires { k < length found.now }
+    ensures { result ≡ holds (element_differs T.bits listed.now found.now k) }
 {
-    let mut k = 0;
-    while k < planes.len() {
-        if planes[k] != list::signed(put::expected(listed, k)) {
-            return k;
-        }
-        k = k + 1;
-    }
-    k
+    found[k].to_bits() != put::expected(listed, k)
 }

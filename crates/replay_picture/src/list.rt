@@ -1,8 +1,6 @@
 // The parts of a picture in the list. Each function is given the list from a picture on, and what it gives goes on to the list's end where nothing else is said.
 // A number past the end is 0.
 ghost use Rattle.std.specs.Prelude.{◌≤◌, ◌≡◌, length};
-ghost use Rattle.std.specs.Int.{w32};
-ghost use Rattle.std.proofs.Common.{to_z};
 ghost use Rattle.replay_picture.specs.Private.Listed.{number_at, numbers_of, behind_numbers, file_of, flag_of, components_of, samples_of, rooms_of, answer_number, records_of, planes_of};
 
 use test_lines::say;
@@ -89,10 +87,10 @@ pub(crate) fn answer_number(picture: &[u8], k: usize) -> u64
 {
     let s = rooms(picture);
     match k {
-        0 => number(s, 2) as u64,
-        1 => number(s, 3) as u64,
-        2 => number(s, 4) as u64 * 4294967296 + number(s, 5) as u64,
-        _ => number(s, 6) as u64,
+        0 => u64::from(number(s, 2)),
+        1 => u64::from(number(s, 3)),
+        2 => u64::from(number(s, 4)) * 4294967296 + u64::from(number(s, 5)),
+        _ => u64::from(number(s, 6)),
     }
 }
 
@@ -129,16 +127,5 @@ pub fn bytes(picture: &[u8]) -> usize
         picture.len() - left
     } else {
         picture.len()
-    }
-}
-
-// A number as a sample: one below 0 is listed as itself plus 4294967296.
-pub fn signed(e: u32) -> i32
-    ensures { result ≡ to_z w32 e }
-{
-    if e < 0x8000_0000 {
-        e as i32
-    } else {
-        ((e - 0x8000_0000) as i32) + (-2147483648)
     }
 }

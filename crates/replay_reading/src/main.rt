@@ -3,9 +3,10 @@
 // It is made of three pictures and the seed 1 (oracle/README.md, "The replay list").
 #![tactic(auto)]
 
-ghost use Rattle.std.specs.Prelude.{◌≤◌, ◌≡◌, length};
+ghost use Rattle.std.specs.Prelude.{◌<◌, ◌≤◌, length, IfSome};
 
 use test_lines::{at, count, say};
+use text::input;
 
 // How many numbers a reading has.
 const READING_LENGTH: usize = 44;
@@ -13,69 +14,35 @@ const READING_LENGTH: usize = 44;
 // The bytes of a case beside its file: its length and the numbers, of 4 bytes each.
 const BESIDE_FILE: usize = 180;
 
-// The counts of the tally: CODESTREAM for a codestream, n for the refusal n, then these two.
-const CODESTREAM: usize = 0;
-
+// The counts of the tally: 0 for a codestream, n for the refusal n, then these two.
 const ENDED: usize = 25;
 
 const DIFFERING: usize = 26;
 
 fn main(rt: HostRuntime) {
-    let mut list = room();
-    let n = text::input::read_full(&mut rt.stdin(), &mut list);
+    // the list has to fit in
+    let mut list: [u8; 1500000] = input::room(0);
+    let n = input::read_full(&mut rt.stdin(), &mut list);
     let mut tally = [0usize; 27];
     let cases = each_case(&rt, &list[..n], &mut tally);
     say(&rt, b"cases: #\n", &[cases as usize]);
-    say(
-        &rt,
-        b"codestream: #\n\
-          refused 1: #\n\
-          refused 2: #\n\
-          refused 3: #\n\
-          refused 4: #\n\
-          refused 5: #\n\
-          refused 6: #\n\
-          refused 7: #\n\
-          refused 8: #\n\
-          refused 9: #\n\
-          refused 10: #\n\
-          refused 11: #\n\
-          refused 12: #\n\
-          refused 13: #\n\
-          refused 14: #\n\
-          refused 15: #\n\
-          refused 16: #\n\
-          refused 17: #\n\
-          refused 18: #\n\
-          refused 19: #\n\
-          refused 20: #\n\
-          refused 21: #\n\
-          refused 22: #\n\
-          refused 23: #\n\
-          refused 24: #\n\
-          ended: #\n\
-          differing: #\n",
-        &tally,
-    );
-}
-
-// The list has to fit in.
-fn room() -> [u8; 1500000]
-    ensures { 1500000 ≡ length result }
-{
-    [0; 1500000]
+    say(&rt, b"codestream: #\n", &[tally[0]]);
+    for number in 1..ENDED {
+        say(&rt, b"refused #: #\n", &[number, tally[number]]);
+    }
+    say(&rt, b"ended: #\n", &[tally[ENDED]]);
+    say(&rt, b"differing: #\n", &[tally[DIFFERING]]);
 }
 
 // How many cases there are.
 fn each_case(rt: &impl Print, list: &[u8], tally: &mut [usize]) -> u32 {
     let cases = box_number::read_u32(list, 0);
     let mut rest = box_number::part(list, 4, list.len());
-    let mut i: u32 = 0;
-    while i < cases {
+    // The loop of each replay program. What it calls is all that differs, so a shared one would take two closures and be no plainer.
+    for i in 0..cases {
         let taken = case_length(rest);
-        count(tally, case(rt, i, rest));
+        count(tally, case(rt, i, rest).unwrap_or(DIFFERING));
         rest = &rest[taken..];
-        i = i + 1;
     }
     cases
 }
@@ -84,56 +51,38 @@ fn each_case(rt: &impl Print, list: &[u8], tally: &mut [usize]) -> u32 {
 fn case_length(rest: &[u8]) -> usize
     ensures { result ≤ length rest.now }
 {
-    let whole = box_number::read_u32(rest, 0) as usize + BESIDE_FILE;
-    if whole < rest.len() {
-        whole
-    } else {
-        rest.len()
-    }
+    (box_number::read_u32(rest, 0) as usize + BESIDE_FILE).min(rest.len())
 }
 
-// The count of the tally for file i.
-fn case(rt: &impl Print, i: u32, rest: &[u8]) -> usize {
+// Reads file i. Gives the count of the tally for its reading, and none where the reading differs from the list.
+fn case(rt: &impl Print, i: u32, rest: &[u8]) -> Option<usize> {
     let end = box_number::read_u32(rest, 0) as usize + 4;
     let mut numbers = [0u64; READING_LENGTH];
     cuzhantir::cuzhantir_read(box_number::part(rest, 4, end), &mut numbers);
-    outcome(rt, i, box_number::part(rest, end, rest.len()), &numbers)
-}
-
-// The same, after reading. Prints the first number that differs.
-fn outcome(rt: &impl Print, i: u32, answer: &[u8], numbers: &[u64]) -> usize {
-    let first = first_difference(answer, numbers);
-    if first < READING_LENGTH {
-        let listed = box_number::read_u32(answer, first * 4);
+    let listed = box_number::part(rest, end, rest.len());
+    if let Some(k) = first_difference(listed, &numbers) {
         say(
             rt,
             b"case #, number #: #, and not #\n",
             &[
                 i as usize,
-                first,
-                at(numbers, first) as usize,
-                listed as usize,
+                k,
+                at(&numbers, k) as usize,
+                box_number::read_u32(listed, k * 4) as usize,
             ],
         );
-        return DIFFERING;
+        return None;
     }
-    match at(numbers, 0) {
-        0 => CODESTREAM,
+    Some(match at(&numbers, 0) {
+        0 => 0,
         1 => ENDED,
-        _ => at(numbers, 1) as usize,
-    }
+        _ => at(&numbers, 1) as usize,
+    })
 }
 
-// The first of the 44 numbers that differs, 44 where all are the same.
-fn first_difference(answer: &[u8], numbers: &[u64]) -> usize
-    ensures { result ≤ 44 }
+// The first of the 44 numbers that differs.
+fn first_difference(listed: &[u8], numbers: &[u64]) -> Option<usize>
+    ensures { IfSome result (λ k. k < READING_LENGTH) }
 {
-    let mut i = 0;
-    while i < READING_LENGTH {
-        if box_number::read_u32(answer, i * 4) as u64 != at(numbers, i) {
-            return i;
-        }
-        i = i + 1;
-    }
-    i
+    (0..READING_LENGTH).find(|k| u64::from(box_number::read_u32(listed, *k * 4)) != at(numbers, *k))
 }

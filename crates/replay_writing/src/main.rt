@@ -7,9 +7,10 @@
 // It is made of the seed 1 (oracle/README.md, "The replay list").
 #![tactic(auto)]
 
-ghost use Rattle.std.specs.Prelude.{◌≤◌, ◌≡◌, length};
+ghost use Rattle.std.specs.Prelude.{◌<◌, ◌≤◌, length, IfSome};
 
 use test_lines::{at, count, say};
+use text::input;
 
 // The numbers of a case: the lengths of the components, the profile, the codestream's high and low word, the destination; then the answer.
 const COMPS: usize = 0;
@@ -41,223 +42,169 @@ const MOST: usize = 4096;
 const DIFFERING: usize = 35;
 
 fn main(rt: HostRuntime) {
-    let mut list = room();
-    let n = text::input::read_full(&mut rt.stdin(), &mut list);
-    let mut comps = [0u32; MOST];
-    let mut d = [0u8; MOST];
+    // the list has to fit in
+    let mut list: [u8; 1000000] = input::room(0);
+    let n = input::read_full(&mut rt.stdin(), &mut list);
     let mut tally = [0usize; 36];
-    let cases = each_case(&rt, &list[..n], &mut comps, &mut d, &mut tally);
+    let cases = each_case(&rt, &list[..n], &mut tally);
     say(&rt, b"cases: #\n", &[cases as usize]);
-    say(&rt, b"written: #\n", &tally);
-    say(
-        &rt,
-        b"refused 29: #\n\
-          refused 30: #\n\
-          refused 31: #\n\
-          refused 32: #\n\
-          refused 33: #\n\
-          refused 34: #\n\
-          differing: #\n",
-        &tally[29..],
-    );
-}
-
-// The list has to fit in.
-fn room() -> [u8; 1000000]
-    ensures { 1000000 ≡ length result }
-{
-    [0; 1000000]
+    say(&rt, b"written: #\n", &[tally[0]]);
+    for number in 29..DIFFERING {
+        say(&rt, b"refused #: #\n", &[number, tally[number]]);
+    }
+    say(&rt, b"differing: #\n", &[tally[DIFFERING]]);
 }
 
 // How many cases there are.
-fn each_case(
-    rt: &impl Print,
-    list: &[u8],
-    comps: &mut [u32],
-    d: &mut [u8],
-    tally: &mut [usize],
-) -> u32 {
+fn each_case(rt: &impl Print, list: &[u8], tally: &mut [usize]) -> u32 {
     let cases = box_number::read_u32(list, 0);
     let mut rest = box_number::part(list, 4, list.len());
-    let mut i: u32 = 0;
-    while i < cases {
-        let taken = case_length(rest);
-        count(tally, case(rt, i, rest, comps, d));
+    // The loop of each replay program. What it calls is all that differs, so a shared one would take two closures and be no plainer.
+    for i in 0..cases {
+        let request = Request { i, rest };
+        let taken = request.end().min(rest.len());
+        count(tally, case(rt, request).unwrap_or(DIFFERING));
         rest = &rest[taken..];
-        i = i + 1;
     }
     cases
 }
 
-// The bytes of the first case of the rest.
-fn case_length(rest: &[u8]) -> usize
-    ensures { result ≤ length rest.now }
-{
-    let whole = bytes_end(rest);
-    if whole < rest.len() {
-        whole
-    } else {
-        rest.len()
+// Writes a request. Gives the count of the tally for the answer, and none where it or the destination differs from the list.
+fn case(rt: &impl Print, request: Request) -> Option<usize> {
+    let mut comps = [0u32; MOST];
+    for (k, n) in comps.iter_mut().enumerate() {
+        *n = box_number::read_u32(request.components(), k * 4);
+    }
+    let mut d = [0u8; MOST];
+    for (k, b) in d.iter_mut().enumerate() {
+        *b = pattern(k);
+    }
+    let mut answer = [0u64; ANSWER_LENGTH];
+    request.write(&comps, &mut d, &mut answer);
+    if let Some(k) = request.first_number(&answer) {
+        say(
+            rt,
+            b"case #, number #: #, and not #\n",
+            &[
+                request.i as usize,
+                k,
+                at(&answer, k) as usize,
+                request.number(k + ANSWER) as usize,
+            ],
+        );
+        return None;
+    }
+    let written = request.written();
+    if let Some(k) = first_byte(written, &d) {
+        say(
+            rt,
+            b"case #, byte #: #, and not #\n",
+            &[
+                request.i as usize,
+                k,
+                usize::from(box_number::read_u8(&d, k)),
+                usize::from(wanted(written, k)),
+            ],
+        );
+        return None;
+    }
+    Some(at(&answer, ANSWER_NUMBER) as usize)
+}
+
+// A request of the list: which it is, and the list from there on.
+#[derive(Clone, Copy)]
+struct Request<'a> {
+    i: u32,
+    rest: &'a [u8],
+}
+
+impl<'a> Request<'a> {
+    // Number k of the 15.
+    fn number(self, k: usize) -> u32
+        requires { k ≤ 14 }
+    {
+        box_number::read_u32(self.rest, k * 4)
+    }
+
+    // The components, and what is behind them.
+    fn components(self) -> &'a [u8] {
+        box_number::part(self.rest, NUMBERS_BYTES, self.rest.len())
+    }
+
+    // Where the profile starts.
+    fn profile_start(self) -> usize
+        ensures { result ≤ 17179869240 }
+    {
+        self.number(COMPS) as usize * 4 + NUMBERS_BYTES
+    }
+
+    // Where the profile ends and the written bytes start.
+    fn profile_end(self) -> usize
+        ensures { result ≤ 21474836535 }
+    {
+        self.profile_start() + self.number(PROFILE) as usize
+    }
+
+    // Where the written bytes and the case end.
+    fn end(self) -> usize {
+        self.profile_end() + self.number(WRITTEN) as usize
+    }
+
+    fn profile(self) -> &'a [u8] {
+        box_number::part(self.rest, self.profile_start(), self.profile_end())
+    }
+
+    fn written(self) -> &'a [u8] {
+        box_number::part(self.rest, self.profile_end(), self.end())
+    }
+
+    fn codestream(self) -> u64 {
+        u64::from(self.number(CODESTREAM_HIGH)) * 4294967296
+            + u64::from(self.number(CODESTREAM_LOW))
+    }
+
+    // Lists that do not fit in give no answer.
+    fn write(self, comps: &[u32], d: &mut [u8], answer: &mut [u64]) {
+        let Some(comps) = comps.get(..self.number(COMPS) as usize) else {
+            return;
+        };
+        let Some(d) = d.get_mut(..self.number(DESTINATION) as usize) else {
+            return;
+        };
+        cuzhantir::cuzhantir_write(
+            comps,
+            self.number(1),
+            self.number(2),
+            self.number(3),
+            self.number(4),
+            self.number(5),
+            self.number(6),
+            self.profile(),
+            self.codestream(),
+            d,
+            answer,
+        );
+    }
+
+    // The first of the four numbers that differs.
+    fn first_number(self, answer: &[u64]) -> Option<usize>
+        ensures { IfSome result (λ k. k < ANSWER_LENGTH) }
+    {
+        (0..ANSWER_LENGTH).find(|k| u64::from(self.number(*k + ANSWER)) != at(answer, *k))
     }
 }
 
-// Number i of the case.
-fn number(rest: &[u8], i: usize) -> u32
-    requires { i ≤ 14 }
-{
-    box_number::read_u32(rest, i * 4)
+// The first byte that differs, of those behind the destination too.
+fn first_byte(written: &[u8], d: &[u8]) -> Option<usize> {
+    (0..d.len()).find(|k| d[*k] != wanted(written, *k))
 }
 
-// Where the profile starts.
-fn profile_start(rest: &[u8]) -> usize
-    ensures { result ≤ 17179869240 }
-{
-    number(rest, COMPS) as usize * 4 + NUMBERS_BYTES
-}
-
-// Where the profile ends and the written bytes start.
-fn profile_end(rest: &[u8]) -> usize
-    ensures { result ≤ 21474836535 }
-{
-    profile_start(rest) + number(rest, PROFILE) as usize
-}
-
-fn bytes_end(rest: &[u8]) -> usize {
-    profile_end(rest) + number(rest, WRITTEN) as usize
-}
-
-// The count of the tally for request i.
-fn case(rt: &impl Print, i: u32, rest: &[u8], comps: &mut [u32], d: &mut [u8]) -> usize {
-    let mut answer = [0u64; 4];
-    take_numbers(box_number::part(rest, NUMBERS_BYTES, rest.len()), comps);
-    fill(d);
-    write_in_first(rest, comps, d, &mut answer);
-    outcome(rt, i, rest, d, &answer)
-}
-
-fn take_numbers(list: &[u8], comps: &mut [u32]) {
-    let mut i = 0;
-    while i < MOST {
-        put(comps, i, box_number::read_u32(list, i * 4));
-        i = i + 1;
-    }
-}
-
-fn put(comps: &mut [u32], i: usize, n: u32) {
-    if i < comps.len() {
-        comps[i] = n;
-    }
-}
-
-fn fill(d: &mut [u8]) {
-    let mut i = 0;
-    while i < d.len() {
-        d[i] = pattern(i);
-        i = i + 1;
-    }
+// The content that place i of the destination has to have: a written byte, or the one before writing.
+fn wanted(written: &[u8], i: usize) -> u8 {
+    written.get(i).copied().unwrap_or(pattern(i))
 }
 
 // The content at place i of the destination before writing.
 fn pattern(i: usize) -> u8 {
     255 - (i % 251) as u8
-}
-
-// Lists that do not fit in give no answer.
-fn write_in_first(rest: &[u8], comps: &[u32], d: &mut [u8], answer: &mut [u64]) {
-    let listed = number(rest, COMPS) as usize;
-    let long = number(rest, DESTINATION) as usize;
-    if listed <= comps.len() {
-        if long <= d.len() {
-            write(rest, &comps[0..listed], &mut d[0..long], answer);
-        }
-    }
-}
-
-fn write(rest: &[u8], comps: &[u32], d: &mut [u8], answer: &mut [u64]) {
-    let profile = box_number::part(rest, profile_start(rest), profile_end(rest));
-    let codestream = number(rest, CODESTREAM_HIGH) as u64 * 4294967296
-        + number(rest, CODESTREAM_LOW) as u64;
-    cuzhantir::cuzhantir_write(
-        comps,
-        number(rest, 1),
-        number(rest, 2),
-        number(rest, 3),
-        number(rest, 4),
-        number(rest, 5),
-        number(rest, 6),
-        profile,
-        codestream,
-        d,
-        answer,
-    );
-}
-
-// The same, after writing: DIFFERING where the answer or the destination is not that of the list. Prints the first difference.
-fn outcome(rt: &impl Print, i: u32, rest: &[u8], d: &[u8], answer: &[u64]) -> usize {
-    let first = first_number(rest, answer);
-    if first < ANSWER_LENGTH {
-        let listed = number(rest, first + ANSWER);
-        say(
-            rt,
-            b"case #, number #: #, and not #\n",
-            &[
-                i as usize,
-                first,
-                at(answer, first) as usize,
-                listed as usize,
-            ],
-        );
-        return DIFFERING;
-    }
-    let bytes = box_number::part(rest, profile_end(rest), bytes_end(rest));
-    let place = first_byte(bytes, d);
-    if place < d.len() {
-        say(
-            rt,
-            b"case #, byte #: #, and not #\n",
-            &[
-                i as usize,
-                place,
-                box_number::read_u8(d, place) as usize,
-                wanted(bytes, place) as usize,
-            ],
-        );
-        return DIFFERING;
-    }
-    at(answer, ANSWER_NUMBER) as usize
-}
-
-// The first of the four numbers that differs, 4 where all are the same.
-fn first_number(rest: &[u8], answer: &[u64]) -> usize
-    ensures { result ≤ 4 }
-{
-    let mut i = 0;
-    while i < ANSWER_LENGTH {
-        if number(rest, i + ANSWER) as u64 != at(answer, i) {
-            return i;
-        }
-        i = i + 1;
-    }
-    i
-}
-
-// The first byte that differs, of those behind the destination too; all where none does.
-fn first_byte(bytes: &[u8], d: &[u8]) -> usize {
-    let mut i = 0;
-    while i < d.len() {
-        if d[i] != wanted(bytes, i) {
-            return i;
-        }
-        i = i + 1;
-    }
-    i
-}
-
-// The content that place i of the destination has to have: a written byte, or the one before writing.
-fn wanted(bytes: &[u8], i: usize) -> u8 {
-    if i < bytes.len() {
-        bytes[i]
-    } else {
-        pattern(i)
-    }
 }

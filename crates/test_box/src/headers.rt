@@ -1,7 +1,6 @@
 // Box headers, in the file and inside jp2h.
-use crate::kinds;
-use crate::say::{hex, text};
-use box_header::{Jp2BoxHeader, ReadHeader};
+use crate::kinds::{self, hex};
+use box_header::{Jp2BoxHeader, NoHeader};
 use box_kind::Jp2BoxType;
 use test_lines::{bytes, say};
 
@@ -24,12 +23,9 @@ pub(crate) fn all(rt: &impl Print) {
 }
 
 fn each_beginning(rt: &impl Print, s: &[u8]) {
-    let mut n = 0;
-    while n < s.len() {
-        read(rt, &s[0..n]);
-        n += 1;
+    for n in 0..=s.len() {
+        read(rt, &s[..n]);
     }
-    read(rt, s);
 }
 
 // Lengths of 4 bytes, then of 8.
@@ -69,11 +65,9 @@ fn contents(rt: &impl Print) {
 // Contents one after the other, of which each ends where it is said.
 fn each_content(rt: &impl Print, contents: &[u8], ends: &[usize]) {
     let mut start = 0;
-    let mut i = 0;
-    while i < ends.len() {
-        read(rt, box_number::part(contents, start, ends[i]));
-        start = ends[i];
-        i += 1;
+    for end in ends {
+        read(rt, box_number::part(contents, start, *end));
+        start = *end;
     }
 }
 
@@ -117,31 +111,28 @@ fn writes(rt: &impl Print) {
 }
 
 fn read(rt: &impl Print, c: &[u8]) {
-    text(rt, b"from_stream of ");
+    say(rt, b"from_stream of ", &[]);
     bytes(rt, c);
     came(rt, Jp2BoxHeader::from_stream(c));
-    text(rt, b"read of ");
+    say(rt, b"read of ", &[]);
     bytes(rt, c);
     came(rt, Jp2BoxHeader::read(c));
 }
 
-fn came(rt: &impl Print, r: ReadHeader) {
-    match r {
-        ReadHeader::Header(h) => {
-            text(rt, b" = ");
+fn came(rt: &impl Print, r: Result<Jp2BoxHeader, NoHeader>) {
+    let _ = print!(rt; " = ");
+    let _ = match r {
+        Ok(h) => {
             header(rt, h);
-            text(rt, b"\n");
+            println!(rt; "")
         }
-        ReadHeader::NoBytes => text(rt, b" = NoBytes\n"),
-        ReadHeader::Cut => text(rt, b" = Cut\n"),
-        ReadHeader::HighWord => text(rt, b" = HighWord\n"),
-        ReadHeader::LengthZero => text(rt, b" = LengthZero\n"),
-    }
+        Err(e) => println!(rt; "{e:?}"),
+    };
 }
 
 fn header(rt: &impl Print, h: Jp2BoxHeader) {
     let ty = h.ty;
-    text(rt, b"Header ");
+    say(rt, b"Header ", &[]);
     kinds::name(rt, ty);
     say(
         rt,
@@ -152,11 +143,11 @@ fn header(rt: &impl Print, h: Jp2BoxHeader) {
 
 fn new(rt: &impl Print, ty: Jp2BoxType) {
     let h = Jp2BoxHeader::new(ty);
-    text(rt, b"new ");
+    say(rt, b"new ", &[]);
     header(rt, h);
-    text(rt, b", ty_u32 ");
+    say(rt, b", ty_u32 ", &[]);
     hex(rt, h.ty_u32());
-    text(rt, b"\n");
+    say(rt, b"\n", &[]);
 }
 
 fn content_length(rt: &impl Print, length: u32, header_length: u32) {
@@ -197,20 +188,20 @@ fn write(rt: &impl Print, length: u32, ty: Jp2BoxType, room: usize, at: usize) {
         ty,
         header_length: 8,
     };
-    if room <= 10 {
-        write_in(rt, h, &mut d[0..room], at);
+    if let Some(d) = d.get_mut(..room) {
+        write_in(rt, h, d, at);
     }
 }
 
 fn write_in(rt: &impl Print, h: Jp2BoxHeader, d: &mut [u8], at: usize) {
-    text(rt, b"write ");
+    say(rt, b"write ", &[]);
     header(rt, h);
     let fitted = h.write(d, at);
     say(
         rt,
         b" at # of # bytes = #, ",
-        &[at, d.len(), fitted as usize],
+        &[at, d.len(), usize::from(fitted)],
     );
     bytes(rt, d);
-    text(rt, b"\n");
+    say(rt, b"\n", &[]);
 }

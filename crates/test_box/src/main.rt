@@ -3,7 +3,6 @@
 
 mod headers;
 mod kinds;
-mod say;
 
 fn main(rt: HostRuntime) {
     kinds::all(&rt);

@@ -2,6 +2,7 @@
 ghost use Rattle.std.specs.Prelude.{◌+◌, ◌≡◌};
 ghost use Rattle.test_marked.specs.Private.Boxes.{with_head, with_extended, with_start, with_picture, with_ihdr, with_colr, with_pclr};
 
+// the kinds as the standard writes them, and not by the table that the code has
 pub const IHDR: u32 = 0x69686472;
 
 pub const JP2C: u32 = 0x6a703263;

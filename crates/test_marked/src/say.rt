@@ -1,36 +1,20 @@
-// A case, and the answer of reading its file.
-use read_rules::FileAnswer;
-use test_lines::say;
+// A case, and the answer of reading its file: by value, and over a lent record with the width in the record afterwards.
+use box_refusal::Refusal;
+use read_rules::FileEnd;
 
-pub(crate) fn came(rt: &impl Print, case: &[u8], file: &[u8]) {
-    let _ = rt.write_all(case);
-    let r = read_file::read_file(file);
-    let a = r.answer;
-    answer(rt, b" = ", a);
-    lent(rt, file);
+pub(crate) fn came(rt: &impl Print, case: &str, file: &[u8]) {
+    let _ = print!(rt; "{case} = ");
+    answer(rt, read_file::read_file(file).map(|r| r.end));
+    let mut j = read_record::opj_jp2_create();
+    let _ = print!(rt; "; lent ");
+    answer(rt, read_lent::opj_jp2_read_header_procedure(file, &mut j));
+    let _ = println!(rt; ", width {}", j.image.w);
 }
 
-// The same over a lent record, and the width in the record afterwards.
-fn lent(rt: &impl Print, file: &[u8]) {
-    let r = crate::lend::lend_header_procedure(file, read_record::opj_jp2_create());
-    let a = r.answer;
-    answer(rt, b"; lent ", a);
-    say(rt, b", width #\n", &[wide(r.jp2.image.w)]);
-}
-
-fn answer(rt: &impl Print, before: &[u8], a: FileAnswer) {
-    let _ = rt.write_all(before);
-    match a {
-        FileAnswer::Codestream(offset) => say(rt, b"codestream at #", &[offset as usize]),
-        FileAnswer::Ended => say(rt, b"ended", &[]),
-        FileAnswer::Refused(number, place) => say(
-            rt,
-            b"refused # at #",
-            &[number as usize, place as usize],
-        ),
+fn answer(rt: &impl Print, answer: Result<FileEnd, Refusal<u32>>) {
+    let _ = match answer {
+        Ok(FileEnd::Codestream(offset)) => print!(rt; "codestream at {offset}"),
+        Ok(FileEnd::Ended) => print!(rt; "ended"),
+        Err(r) => print!(rt; "refused {} at {}", r.cause.number(), r.place),
     };
-}
-
-fn wide(n: u32) -> usize {
-    n as usize
 }

@@ -27,10 +27,8 @@ fn main(rt: HostRuntime) {
 }
 
 fn each_limit(rt: &impl Print, limits: &[u32]) {
-    let mut i = 0;
-    while i < limits.len() {
-        there_and_back(rt, limits[i]);
-        i += 1;
+    for limit in limits {
+        there_and_back(rt, *limit);
     }
 }
 
@@ -44,9 +42,7 @@ fn there_and_back(rt: &impl Print, value: u32) {
     let mut d = [0xaau8; 6];
     write(rt, &mut d, 1, value, 4);
     read_bytes(rt, &d, 1, 4);
-    read_u8(rt, &d, 4);
-    read_u16(rt, &d, 3);
-    read_u32(rt, &d, 1);
+    read_numbers(rt, &d, 4, 3, 1);
 }
 
 fn in_width(rt: &impl Print, value: u32, nb: usize) {
@@ -56,17 +52,13 @@ fn in_width(rt: &impl Print, value: u32, nb: usize) {
 }
 
 fn each_place(rt: &impl Print, s: &[u8], places: &[usize]) {
-    let mut i = 0;
-    while i < places.len() {
-        reads(rt, s, places[i]);
-        i += 1;
+    for place in places {
+        reads(rt, s, *place);
     }
 }
 
 fn reads(rt: &impl Print, s: &[u8], at: usize) {
-    read_u8(rt, s, at);
-    read_u16(rt, s, at);
-    read_u32(rt, s, at);
+    read_numbers(rt, s, at, at, at);
     read_bytes(rt, s, at, 1);
     read_bytes(rt, s, at, 2);
     read_bytes(rt, s, at, 3);
@@ -123,37 +115,31 @@ fn rooms(rt: &impl Print) {
 // Only the first bytes of d are lent, as many as there is to be room for.
 fn in_room(rt: &impl Print, room: usize, at: usize, nb: usize) {
     let mut d = [0xaau8; 8];
-    if room <= 8 {
-        write(rt, &mut d[0..room], at, 0x01020304, nb);
+    if let Some(d) = d.get_mut(..room) {
+        write(rt, d, at, 0x01020304, nb);
     }
 }
 
-fn read_u8(rt: &impl Print, s: &[u8], at: usize) {
-    say(rt, b"read_u8 at # of ", &[at]);
+// A call with its numbers, the bytes that it reads, and its result.
+fn came(rt: &impl Print, call: &[u8], numbers: &[usize], s: &[u8], n: usize) {
+    say(rt, call, numbers);
     bytes(rt, s);
-    say(rt, b" = #\n", &[box_number::read_u8(s, at) as usize]);
+    say(rt, b" = #\n", &[n]);
 }
 
-fn read_u16(rt: &impl Print, s: &[u8], at: usize) {
-    say(rt, b"read_u16 at # of ", &[at]);
-    bytes(rt, s);
-    say(rt, b" = #\n", &[box_number::read_u16(s, at) as usize]);
-}
-
-fn read_u32(rt: &impl Print, s: &[u8], at: usize) {
-    say(rt, b"read_u32 at # of ", &[at]);
-    bytes(rt, s);
-    say(rt, b" = #\n", &[box_number::read_u32(s, at) as usize]);
+// A number of one byte, of two and of four, each at a place of its own.
+fn read_numbers(rt: &impl Print, s: &[u8], one: usize, two: usize, four: usize) {
+    let n = usize::from(box_number::read_u8(s, one));
+    came(rt, b"read_u8 at # of ", &[one], s, n);
+    let n = usize::from(box_number::read_u16(s, two));
+    came(rt, b"read_u16 at # of ", &[two], s, n);
+    let n = box_number::read_u32(s, four) as usize;
+    came(rt, b"read_u32 at # of ", &[four], s, n);
 }
 
 fn read_bytes(rt: &impl Print, s: &[u8], at: usize, nb: usize) {
-    say(rt, b"opj_read_bytes, width # at # of ", &[nb, at]);
-    bytes(rt, s);
-    say(
-        rt,
-        b" = #\n",
-        &[box_number::opj_read_bytes(s, at, nb) as usize],
-    );
+    let n = box_number::opj_read_bytes(s, at, nb) as usize;
+    came(rt, b"opj_read_bytes, width # at # of ", &[nb, at], s, n);
 }
 
 fn write(rt: &impl Print, d: &mut [u8], at: usize, value: u32, nb: usize) {
@@ -161,20 +147,16 @@ fn write(rt: &impl Print, d: &mut [u8], at: usize, value: u32, nb: usize) {
     say(
         rt,
         b"opj_write_bytes #, width # at # of # bytes = #, ",
-        &[value as usize, nb, at, d.len(), fitted as usize],
+        &[value as usize, nb, at, d.len(), usize::from(fitted)],
     );
     bytes(rt, d);
-    text(rt, b"\n");
+    say(rt, b"\n", &[]);
 }
 
 fn part(rt: &impl Print, s: &[u8], start: usize, end: usize) {
     say(rt, b"part from # to # of ", &[start, end]);
     bytes(rt, s);
-    text(rt, b" = ");
+    say(rt, b" = ", &[]);
     bytes(rt, box_number::part(s, start, end));
-    text(rt, b"\n");
-}
-
-fn text(rt: &impl Print, s: &[u8]) {
-    let _ = rt.write_all(s);
+    say(rt, b"\n", &[]);
 }

@@ -1,15 +1,16 @@
 -- Pieces that are put one after the other, and the loops that do so.
 -- Assumes nothing.
-use Prim.Native.Nat.{ℕ, ◌+◌, ◌-◌, ◌≤◌, ◌<◌}
+use Prim.Native.Nat.{ℕ, ◌+◌, ◌-◌, ◌≤◌, ◌<◌, min}
 use native.Mathlib.Omega.{arith}
 use native.Mathlib.Nat.{add-zero}
-use native.Mathlib.Numerals.{add-one}
 use borrow.Author.Tests.{ltb-true, ltb-false}
 use mathlib.Core.Path.{◌≡◌, refl, sym, ap, ap₂, ◌∙◌}
-use mathlib.Core.List.{List, [], ◌∷◌, ◌++◌, append-nil, append_assoc}
+use mathlib.Core.List.{List, [], ◌++◌, append-nil, append_assoc}
 use lib.Dec.{ltb}
-use lib.ListN.{length, take, set, length-append, length-take}
-use lib.Seq.{take_all, take-append-le, take-append-add, take-nil, set_split}
+use lib.ListN.{length, take, length-append, length-take}
+use lib.Seq.{take_all, take-append-le, take-append-add, take-nil, drop-drop}
+use borrow.Rule.Slice.PartMut.{put_mid}
+use Rattle.std.proofs.lemmas.List.{take_min}
 use Rattle.box_number.specs.Number.{placed}
 use Rattle.box_number.proofs.Rows.{either}
 use Rattle.box_number.proofs.Placing.{placed-none, length-placed, placed_then}
@@ -91,12 +92,14 @@ module _ (d : List ℕ) (at : ℕ) where
   pub same_length : (xs : List ℕ) {e : List ℕ} {k : ℕ} → Puts d at xs e k → length e ≡ length d
   same_length xs p = ap length p.1 ∙ length-put xs
 
-  -- a byte that has room
-  pub put_byte : (b : ℕ) → at < length d → Puts d at (b ∷ []) (set d at b) (at + 1)
+  -- the part of a text that has room, copied over a part of d
+  pub put_part : (xs ys : List ℕ) (n m : ℕ) → at < length d → n ≡ min (length xs) (length d - at) → m ≡ n → ys ≡ take m xs → Puts d at xs (put_mid at m d ys) (at + n)
   unfolding put after placed
-  put_byte b h =
-      let e : take (length d - at) (b ∷ []) ≡ b ∷ [] = take_all (length d - at) (b ∷ []) (omega arith) in
-      rw (e, add-one at, append_assoc) (refl, set_split d at b h)
+  put_part xs ys n m h e f g =
+      let i : n ≡ min (length d - at) (length xs) = omega arith in
+      let t : take (length d - at) xs ≡ ys = sym (take_min (length d - at) xs) ∙ ap (λ k. take k xs) (sym (f ∙ i)) ∙ sym g in
+      let l : length ys ≡ n = ap length g ∙ simp length-take (omega arith) in
+      rw t (ap (λ k. at + k) (sym l), rw (l, ← f, drop-drop m at d, append_assoc))
 
 -- in a loop: what is left of the text, put from here on, gives the same as the whole text
 pub record Left (d₀ : List ℕ) (at : ℕ) (whole d : List ℕ) (k : ℕ) (rest : List ℕ) : Type 0 where

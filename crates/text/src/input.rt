@@ -1,21 +1,27 @@
 // Input that is read into a lent list.
-ghost use Rattle.std.specs.Prelude.{◌≤◌, length};
+ghost use Rattle.std.specs.Prelude.{◌≡◌, ◌≤◌, length, All};
 
 use std::io::Read;
 
 // Reads until d is full, the input ends or a read fails. Answers how many bytes were read; they are the first of d.
+// The loop stands here, since `read_exact` loses the count where the input ends early, and `read_to_end` allocates.
 pub fn read_full(input: &mut impl Read, d: &mut [u8]) -> usize
     ensures { result ≤ length d.new }
 {
     let mut n = 0;
-    while n < d.len() {
-        let Ok(got) = input.read(&mut d[n..]) else {
-            break;
-        };
-        if got == 0 {
-            break;
-        }
+    while n < d.len()
+        && let Ok(got @ 1..) = input.read(&mut d[n..])
+    {
         n += got;
     }
     n
+}
+
+// A list of N elements that are all the same, into which input is read. It is made here, under a contract that counts its elements, since a check
+// that sees a long list being made in its reader writes the list out.
+pub fn room<T: Copy, const N: usize>(element: T) -> [T; N]
+    ensures long { length result ≡ N }
+    ensures same { All (λ x. x ≡ element) result }
+{
+    [element; N]
 }

@@ -1,4 +1,4 @@
--- The rows of `write_fields`: what each means for the answer and for the destination.
+-- The rows of writing: what each means for the answer and for the destination.
 -- Assumes nothing.
 use Prim.Native.Nat.{ℕ, ◌≤◌, ◌<◌}
 use native.Mathlib.Omega.{arith}
@@ -13,24 +13,24 @@ use Rattle.box_kind.specs.declared.Jp2BoxType.TheVariants.{JP2C, JP2H}
 use Rattle.write_rules.proofs.Lengths.{length-header, length-box, length-signature, length-type}
 use Rattle.write_rules.specs.Writing.{Writing, written, declined, front, most_profile, most_codestream, write_fields, destination}
 use Rattle.write_rules.specs.declared.Fields.{Fields}
-use Rattle.write_boxes.specs.declared.Written.{Written}
-use Rattle.write_boxes.specs.declared.Written.TheVariants.{Bytes, Refused}
+use Rattle.box_refusal.specs.Told.{Told, accepted, refused}
 use Rattle.write_boxes.specs.Answers.{answered}
 use Rattle.write_rules.specs.Jp2h.{jp2h_content}
 use Rattle.write_boxes.specs.Private.Lengths.{length_of_front}
 use Rattle.write_boxes.proofs.Lengths.{jp2h-length}
 
 -- what a writing answers, and the destination after it
-abbrev pub Done : Writing → Written → List ℕ → List ℕ → Type 0
-Done x r d e = (r ≡ answered x) × (e ≡ destination d x)
+pub record Done (x : Writing) (r : Told ℕ) (d e : List ℕ) : Type 0 where
+  pub value : r ≡ answered x
+  pub d_after : e ≡ destination d x
 
-pub declined-done : (x : Writing) {number place : ℕ} (d : List ℕ) → x ≡ declined number place → Done x (Refused number place) d d
+pub declined-done : (x : Writing) {number place : ℕ} (d : List ℕ) → x ≡ declined number place → Done x (refused number place) d d
 unfolding answered destination
-declined-done x d e = (rw e refl, rw e refl)
+declined-done x d e = record { value = rw e refl; d_after = rw e refl }
 
-pub written-done : (x : Writing) {bs : List ℕ} {n : ℕ} (d : List ℕ) {e : List ℕ} → x ≡ written bs → n ≡ length bs → e ≡ placed d 0 bs → Done x (Bytes n) d e
+pub written-done : (x : Writing) {bs : List ℕ} {n : ℕ} (d : List ℕ) {e : List ℕ} → x ≡ written bs → n ≡ length bs → e ≡ placed d 0 bs → Done x (accepted n) d e
 unfolding answered destination
-written-done x d p q r = (rw (p, q) refl, rw p r)
+written-done x d p q r = record { value = rw (p, q) refl; d_after = rw p r }
 
 -- whether the picture has a height and a width
 module _ (s : Fields) {valid : Bool} (e : valid ≡ holds (s.h ≠? 0 and s.w ≠? 0)) where

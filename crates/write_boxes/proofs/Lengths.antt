@@ -12,7 +12,6 @@ use Rattle.box_number.specs.Table.{◌=?◌, ◌≠?◌, otherwise, ◌⇒◌∣
 use Rattle.box_number.proofs.Rows.{Says, row, each}
 use Rattle.box_kind.specs.declared.Jp2BoxType.TheVariants.{BPCC, CDEF, COLR}
 use Rattle.write_rules.specs.declared.Fields.{Fields}
-use Rattle.read_record.specs.Component.{most_components}
 use Rattle.write_rules.specs.Setup.{varies}
 use Rattle.write_rules.specs.Box.{box}
 use Rattle.write_rules.specs.Bpcc.{bpcc_content, bpcc}
@@ -97,17 +96,9 @@ module _ (s : Fields) where
       (cdef-none, λ h. length-box CDEF (cdef_content comps s) ∙ omega (arith, length-cdef_content comps s, cdef-some h))
 
   -- and at most
-  pub bpcc-most : s.numcomps ≤ most_components → bpcc_length s ≤ 16392
-  unfolding bpcc_length
-  bpcc-most h = each (λ n. n ≤ 16392) _ ((λ _. omega arith), λ _. omega arith)
-
   pub colr-most : (profile : ℕ) → profile ≤ most_profile → colr_length s profile ≤ 16777226
   unfolding colr_length
   colr-most profile h = each (λ n. n ≤ 16777226) _ ((λ _. omega arith), λ _. omega arith)
-
-  pub cdef-most : s.definitions ≤ most_components → cdef_length s ≤ 98314
-  unfolding cdef_length
-  cdef-most h = each (λ n. n ≤ 98314) _ ((λ _. omega arith), λ _. omega arith)
 
   pub jp2h-length : (comps profile : List ℕ) → length (jp2h_content comps s profile) ≡ jp2h_length s (length profile)
   jp2h-length comps profile = rw (length-append, length-append, length-append, length-ihdr s, bpcc-length comps, colr-length profile, cdef-length comps)

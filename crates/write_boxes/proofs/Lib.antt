@@ -1,4 +1,5 @@
 pub mod Pieces
+pub mod Numbers
 pub mod Lengths
 pub mod Answers
 pub mod Requests

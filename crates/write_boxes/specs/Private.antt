@@ -1,2 +1,3 @@
 pub mod Lengths
-pub mod Writable
+pub mod Numbers
+pub mod Writing

@@ -11,7 +11,7 @@ use Rattle.box_number.proofs.Bytes.{length-bytes}
 use Rattle.box_number.proofs.Indices.{lowest-passes, lowest-none, lowest-past}
 use Rattle.box_kind.specs.declared.Jp2BoxType.TheVariants.{COLR, CDEF}
 use Rattle.box_number.specs.Lowest.{lowest}
-use Rattle.write_rules.specs.declared.Encoder.TheVariants.{Ready}
+use Rattle.box_refusal.specs.Told.{accepted}
 use Rattle.write_rules.specs.Request.{Request}
 use Rattle.write_rules.specs.Words.{Corners, SameBits, OtherBits, Opacity}
 use Rattle.write_rules.specs.Setup.{wrapping, fields_of, ill, set_up}
@@ -77,7 +77,7 @@ wrapping-some a b l h e = omega arith
 
 module _ (r : Request) (corners : Corners r) where
   -- the rows from 33 on
-  fields-answered : Counted r → Listed r → AllSound r → TableAnswer r (after_set_up r (Ready (fields_of r)))
+  fields-answered : Counted r → Listed r → AllSound r → TableAnswer r (after_set_up r (accepted (fields_of r)))
   unfolding write_fields
   fields-answered counted listed sound =
       each (TableAnswer r) _ (

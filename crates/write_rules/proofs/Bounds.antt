@@ -11,7 +11,7 @@ use Rattle.box_number.specs.Table.{◌=?◌}
 use Rattle.box_number.proofs.Rows.{Says, row, each}
 use Rattle.read_channels.specs.Definitions.{Def}
 use Rattle.box_number.proofs.Indices.{decide, lowest-none}
-use Rattle.write_rules.specs.declared.Encoder.TheVariants.{Ready}
+use Rattle.box_refusal.specs.Told.{accepted}
 use Rattle.write_rules.specs.Request.{Request, precision, sign_of}
 use Rattle.read_record.specs.Component.{most_components}
 use Rattle.write_rules.specs.Setup.{wrapping, BPCi, BPC, METH, EnumCS, N, written_definition, varies, other_bits, most_bits, fields_of, ill, set_up}
@@ -39,7 +39,7 @@ module _ (r : Request) (bs : List ℕ) where
   Accepted w = w ≡ written bs → Fit r × (bs ≡ bytes_for r)
 
   -- the rows from 33 on
-  fields_fit : (1 ≤ r.count) → (r.count ≤ most_components) → ((c : ℕ) → c < r.count → Says false (ill r.components c)) → Accepted (after_set_up r (Ready (fields_of r)))
+  fields_fit : (1 ≤ r.count) → (r.count ≤ most_components) → ((c : ℕ) → c < r.count → Says false (ill r.components c)) → Accepted (after_set_up r (accepted (fields_of r)))
   unfolding write_fields
   fields_fit some most right =
       each Accepted _ (

@@ -6,10 +6,9 @@ use mathlib.Core.List.{List, ◌++◌}
 use native.Mathlib.Omega.{arith}
 use lib.ListN.{length}
 use Rattle.box_number.specs.Number.{number, bytes}
-use Rattle.box_number.specs.Table.{table}
 use Rattle.box_number.proofs.Rows.{row}
 use Rattle.box_number.proofs.Bytes.{length-bytes}
-use Rattle.box_kind.specs.Kind.{kind_of, number_of}
+use Rattle.box_kind.proofs.KindNumbers.{kinds_and_numbers}
 use Rattle.box_kind.specs.declared.Jp2BoxType.TheVariants.{IHDR, BPCC, COLR, CDEF}
 use Rattle.read_record.specs.declared.Image.{Image}
 use Rattle.read_record.specs.declared.Colour.{Colour}
@@ -32,22 +31,6 @@ use Rattle.write_rules.proofs.Numbers.{number-here, number-last, number-after}
 use Rattle.write_rules.proofs.Splitting.{box_at}
 use Rattle.write_rules.proofs.Bounds.{Fit, wrapping-most, bpc-most, n-most, space-most}
 use Rattle.write_rules.proofs.Lengths.{length-ihdr_content, length-bpcc_content, length-colr_content, length-cdef_content}
-
-pub kind-ihdr : kind_of (number_of IHDR) ≡ IHDR
-unfolding kind_of table
-kind-ihdr = refl
-
-kind-bpcc : kind_of (number_of BPCC) ≡ BPCC
-unfolding kind_of table
-kind-bpcc = refl
-
-kind-colr : kind_of (number_of COLR) ≡ COLR
-unfolding kind_of table
-kind-colr = refl
-
-kind-cdef : kind_of (number_of CDEF) ≡ CDEF
-unfolding kind_of table
-kind-cdef = refl
 
 -- the image and the colour that are put
 abbrev pub sized : Request → Image
@@ -80,13 +63,13 @@ module _ (r : Request) (fit : Fit r) where
       let n : image.NC (ihdr_content (fields_of r)) ≡ r.count = ap (λ (x : Image). x.numcomps) i in
       let s = fit.some in
       let m = fit.most in
-      rw kind-ihdr (sym (row 4 _ (z, (l, (((λ e. fit.high (sym h ∙ e)), ((λ e. fit.wide (sym w ∙ e)), omega arith)), (omega arith, tt)))) (ap (λ (x : Image). accepted (with_has_ihdr (with_image x k))) (sym i))))
+      rw (kinds_and_numbers.kind_back IHDR tt) (sym (row 4 _ (z, (l, (((λ e. fit.high (sym h ∙ e)), ((λ e. fit.wide (sym w ∙ e)), omega arith)), (omega arith, tt)))) (ap (λ (x : Image). accepted (with_has_ihdr (with_image x k))) (sym i))))
 
   pub bpcc-read : (at : ℕ) (k : Jp2) → k.image.numcomps ≡ r.count → child (box_at BPCC at (bpcc_content r.components r.count)) k ≡ accepted (with_bpcc (span (at + 8) r.count) k)
   unfolding depths.bpcc
   bpcc-read at k z =
       let l = length-bpcc_content r.components r.count in
-      rw kind-bpcc (sym (row 1 _ (l ∙ sym z, tt) (ap (λ (n : ℕ). accepted (with_bpcc (span (at + 8) n) k)) (sym l))))
+      rw (kinds_and_numbers.kind_back BPCC tt) (sym (row 1 _ (l ∙ sym z, tt) (ap (λ (n : ℕ). accepted (with_bpcc (span (at + 8) n) k)) (sym l))))
 
   -- METH, PREC and APPROX
   fields_are : (fields_of r).meth < 256 → (colour.METH (colr_content (fields_of r) r.profile) ≡ (fields_of r).meth) × (colour.PREC (colr_content (fields_of r) r.profile) ≡ PREC) × (colour.APPROX (colr_content (fields_of r) r.profile) ≡ APPROX)
@@ -117,7 +100,7 @@ module _ (r : Request) (fit : Fit r) where
       let n = enum_is e in
       let l : length (colr_content (fields_of r) r.profile) ≡ 7 = rw (length-colr_content (fields_of r) r.profile, spec_one e, length-bytes) in
       let same : colour.specified (colr_content (fields_of r) r.profile) (colour.EnumCS (colr_content (fields_of r) r.profile)) k.colour.lab 1 ≡ painted r k = rw (f.0, f.1, f.2, n) refl in
-      rw kind-colr (sym (row 4 _ (omega arith, (z, ((λ _. omega arith), ((λ _ x. s.1 (sym n ∙ x)), f.0 ∙ e)))) (ap (λ (x : Colour). accepted (with_colour x k)) (sym same))))
+      rw (kinds_and_numbers.kind_back COLR tt) (sym (row 4 _ (omega arith, (z, ((λ _. omega arith), ((λ _ x. s.1 (sym n ∙ x)), f.0 ∙ e)))) (ap (λ (x : Colour). accepted (with_colour x k)) (sym same))))
 
   pub colr-two : (at : ℕ) (k : Jp2) → (fields_of r).meth ≡ 2 → (fields_of r).enumcs ≡ 0 → k.colour.held ≡ 0 → k.colour.enumcs ≡ 0 → k.colour.lab ≡ colour.no_lab
       → child (box_at COLR at (colr_content (fields_of r) r.profile)) k ≡ accepted (with_icc (span (at + 8 + 3) (length r.profile)) (with_colour (painted r k) k))
@@ -128,7 +111,7 @@ module _ (r : Request) (fit : Fit r) where
       let d : length (colr_content (fields_of r) r.profile) - 3 ≡ length r.profile = omega arith in
       let same : colour.specified (colr_content (fields_of r) r.profile) k.colour.enumcs colour.no_lab 1 ≡ painted r k = rw (f.0, f.1, f.2, q, n, b) refl in
       let other : colour.METH (colr_content (fields_of r) r.profile) ≡ 1 → ⊥ = λ x. omega (arith, f.0) in
-      rw kind-colr (sym (row 5 _ (omega arith, (z, ((λ x. absurd (other x)), ((λ x. absurd (other x)), (other, f.0 ∙ e))))) (rw (d, same) refl)))
+      rw (kinds_and_numbers.kind_back COLR tt) (sym (row 5 _ (omega arith, (z, ((λ x. absurd (other x)), ((λ x. absurd (other x)), (other, f.0 ∙ e))))) (rw (d, same) refl)))
 
   pub cdef-read : (at : ℕ) (k : Jp2) → ((fields_of r).definitions ≡ 0 → ⊥) → k.lists.cdef.count ≡ 0 → child (box_at CDEF at (cdef_content r.components (fields_of r))) k ≡ accepted (with_cdef (span (at + 8 + 2) (fields_of r).definitions) k)
   unfolding channels.cdef
@@ -137,4 +120,4 @@ module _ (r : Request) (fit : Fit r) where
       let m = fit.most in
       let n : channels.N (cdef_content r.components (fields_of r)) ≡ (fields_of r).definitions = number-here 2 (fields_of r).definitions (series (λ c. cdef_entry (written_definition r.components (fields_of r).colours c)) (fields_of r).definitions) (omega arith) (omega arith) in
       let l = length-cdef_content r.components (fields_of r) in
-      rw kind-cdef (sym (row 4 _ (z, (omega arith, ((λ x. some (sym n ∙ x)), (omega arith, tt)))) (rw n refl)))
+      rw (kinds_and_numbers.kind_back CDEF tt) (sym (row 4 _ (z, (omega arith, ((λ x. some (sym n ∙ x)), (omega arith, tt)))) (rw n refl)))

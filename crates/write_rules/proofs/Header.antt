@@ -8,6 +8,7 @@ use native.Mathlib.Omega.{arith}
 use lib.ListN.{length, length-append}
 use Rattle.box_number.specs.Table.{◌=?◌, ◌≠?◌, otherwise, ◌⇒◌∣◌, table}
 use Rattle.box_number.proofs.Rows.{row}
+use Rattle.box_kind.proofs.KindNumbers.{kinds_and_numbers}
 use Rattle.box_kind.specs.declared.Jp2BoxType.TheVariants.{IHDR, BPCC, COLR, CDEF}
 use Rattle.box_number.proofs.Bytes.{length-bytes}
 use Rattle.read_record.specs.declared.Span.{Span}
@@ -31,7 +32,7 @@ use Rattle.write_rules.proofs.Splitting.{split-box}
 use Rattle.write_rules.proofs.Lengths.{length-box, length-ihdr_content, length-ihdr, length-bpcc_content, length-colr_content, length-cdef_content}
 use Rattle.write_rules.proofs.Steps.{Reads, no-child, no_more, child-box}
 use Rattle.write_rules.proofs.Bounds.{Fit, n-most, meth-cases}
-use Rattle.write_rules.proofs.Children.{kind-ihdr, sized, painted, spec_one, spec_two, ihdr-read, bpcc-read, colr-one, colr-two, cdef-read}
+use Rattle.write_rules.proofs.Children.{sized, painted, spec_one, spec_two, ihdr-read, bpcc-read, colr-one, colr-two, cdef-read}
 
 -- the places of colr and cdef
 abbrev pub colr_at : Request → ℕ
@@ -167,7 +168,7 @@ module _ (r : Request) (fit : Fit r) where
   has-ihdr : (n : ℕ) (rest : List ℕ) → length (ihdr (fields_of r) ++ rest) ≤ n → lacks_ihdr (split n 40 (ihdr (fields_of r) ++ rest)) ≡ false
   unfolding lacks_ihdr
   has-ihdr zero rest h = absurd (omega (arith, length-append (ihdr (fields_of r)) rest, length-ihdr (fields_of r)))
-  has-ihdr (suc n) rest h = rw (split-box IHDR (ihdr_content (fields_of r)) rest (rw (length-ihdr_content (fields_of r)) (omega arith)) (omega arith) n 40, kind-ihdr) refl
+  has-ihdr (suc n) rest h = rw (split-box IHDR (ihdr_content (fields_of r)) rest (rw (length-ihdr_content (fields_of r)) (omega arith)) (omega arith) n 40, kinds_and_numbers.kind_back IHDR tt) refl
 
   grouped : jp2h_content r.components (fields_of r) r.profile ≡ ihdr (fields_of r) ++ tail
   grouped = simp (append_assoc, append-nil)

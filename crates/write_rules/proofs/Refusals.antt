@@ -11,7 +11,7 @@ use Rattle.box_number.specs.Number.{placed}
 use Rattle.box_number.proofs.Placing.{length-placed}
 use Rattle.box_number.proofs.Rows.{each}
 use Rattle.write_rules.specs.declared.Fields.{Fields}
-use Rattle.write_rules.specs.declared.Encoder.TheVariants.{Ready}
+use Rattle.box_refusal.specs.Told.{accepted}
 use Rattle.write_rules.specs.Request.{Request}
 use Rattle.write_rules.specs.Setup.{fields_of, set_up}
 use Rattle.write_rules.specs.Writing.{Writing, written, declined, write_fields, after_set_up, write, destination}
@@ -21,7 +21,7 @@ abbrev Numbered : Writing → Type 0
 Numbered (written bytes) = Unit
 Numbered (declined number place) = (29 ≤ number) × (number ≤ 34)
 
-fields-numbered : (r : Request) (s : Fields) → Numbered (after_set_up r (Ready s))
+fields-numbered : (r : Request) (s : Fields) → Numbered (after_set_up r (accepted s))
 unfolding write_fields
 fields-numbered r s = each Numbered _ ((λ _. (omega arith, omega arith)), λ _. ((λ _. (omega arith, omega arith)), λ _. ((λ _. (omega arith, omega arith)), λ _. tt)))
 

@@ -6,6 +6,7 @@ use mathlib.Core.List.{List, [], ◌++◌, append_assoc, append-nil}
 use mathlib.Core.Logic.{⊎_elim}
 use native.Mathlib.Omega.{arith}
 use lib.ListN.{length, length-append}
+use Rattle.std.proofs.lemmas.List.{nil_from_length}
 use Rattle.box_number.specs.Number.{number, part, bytes}
 use Rattle.box_number.specs.Table.{◌≠?◌, table}
 use Rattle.box_number.proofs.Rows.{row, each}
@@ -36,7 +37,7 @@ use Rattle.write_rules.specs.RoundTrip.{depth_byte, bpcc_bytes, SizeBack, Depths
 use Rattle.write_rules.proofs.Numbers.{number-last, number-after}
 use Rattle.write_rules.proofs.Splitting.{lbox, tbox}
 use Rattle.write_rules.proofs.Bounds.{Fit, accepted-fits, wrapping_back, wrapping-most, byte-most, byte-precision, byte-sign, one-depth, n-most, no-space, meth-cases, definition-most}
-use Rattle.write_rules.proofs.Words.{empty, other-bits, one_byte, meth-enumerated, meth-profiled, space-is, all-defined, none-defined, colour-written, opacity-written, rest-written}
+use Rattle.write_rules.proofs.Words.{other-bits, one_byte, meth-enumerated, meth-profiled, space-is, all-defined, none-defined, colour-written, opacity-written, rest-written}
 use Rattle.write_rules.proofs.Lengths.{length-header, length-box, length-signature, length-type, length-ihdr, length-bpcc_content, length-series, length-cdef_entry}
 use Rattle.write_rules.proofs.Children.{spec_two}
 use Rattle.write_rules.proofs.Header.{colr_at, cdef_at, bits_at, icc_at, defs_at, bpcc-none, bpcc-some, icc_none, icc_some, cdef-none, cdef-some, children_most}
@@ -139,7 +140,7 @@ module _ (r : Request) (fit : Fit r) (stream : List ℕ) where
   unfolding part
   profile_back =
       meth-cases r
-      (λ e z. rw (icc_none r e) (sym (empty r.profile z)))
+      (λ e z. rw (icc_none r e) (sym (nil_from_length r.profile z)))
       (λ e z.
       let p : Lies f (colr_at r + 8) (colr_content (fields_of r) r.profile) = lies_content COLR (colr_content (fields_of r) r.profile) (lies_left (colr (fields_of r) r.profile) (cdef r.components (fields_of r)) after-bpcc) in
       let three : length (bytes 1 (fields_of r).meth ++ bytes 1 PREC ++ bytes 1 APPROX) ≡ 3 = simp (length-append, length-bytes) in

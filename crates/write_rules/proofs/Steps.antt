@@ -6,8 +6,9 @@ use mathlib.Core.List.{List, [], ◌++◌}
 use native.Mathlib.Nat.{add-zero}
 use native.Mathlib.Omega.{arith}
 use lib.ListN.{length, length-append}
-use Rattle.box_number.specs.Table.{◌<?◌, table}
+use Rattle.box_number.specs.Table.{◌<?◌}
 use Rattle.box_number.proofs.Rows.{row}
+use Rattle.box_kind.proofs.KindNumbers.{kinds_and_numbers}
 use Rattle.box_kind.specs.Kind.{kind_of, number_of, tag}
 use Rattle.box_kind.specs.declared.Jp2BoxType.{Jp2BoxType}
 use Rattle.box_kind.specs.declared.Jp2BoxType.TheVariants.{JP2C}
@@ -70,10 +71,6 @@ module _ (type : Jp2BoxType) (content rest : List ℕ) (small : 8 + length conte
 pub onward : {n at : ℕ} {c rest : List ℕ} {k m : Jp2} {w : Walked} → Walks n at c rest k m → (to : ℕ) → at + length c ≡ to → ((fuel : ℕ) → length rest ≤ fuel → run (split fuel to rest) m ≡ w) → run (split n at (c ++ rest)) k ≡ w
 onward a to e next = a.same ∙ rw e (next a.fuel a.enough)
 
-kind-stream : kind_of (number_of JP2C) ≡ JP2C
-unfolding kind_of table
-kind-stream = refl
-
 -- the codestream is reached, whatever its length
 module _ (k : Jp2) (head : header_bit k ≡ 0 → ⊥) where
   abbrev reached : ℕ → Walked
@@ -97,7 +94,7 @@ module _ (k : Jp2) (head : header_bit k ≡ 0 → ⊥) where
       let c = box_header JP2C size ++ rest in
       let known : number_of JP2C < 4294967296 = omega arith in
       let l = lbox JP2C size rest small known in
-      let t = ap (λ (m : ℕ). tag (kind_of m)) (tbox JP2C size rest small known) ∙ ap tag kind-stream in
+      let t = ap (λ (m : ℕ). tag (kind_of m)) (tbox JP2C size rest small known) ∙ ap tag (kinds_and_numbers.kind_back JP2C tt) in
       let h = header_is JP2C size rest small known in
       let b = long JP2C size rest small known in
       let s : length c ≡ 8 + length rest = simp (length-append, length-header) in

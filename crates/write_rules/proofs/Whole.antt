@@ -9,7 +9,8 @@ use Rattle.box_number.specs.Number.{number, bytes}
 use Rattle.box_number.specs.Table.{table}
 use Rattle.box_number.proofs.Rows.{row}
 use Rattle.box_number.proofs.Bytes.{length-bytes}
-use Rattle.box_kind.specs.Kind.{kind_of, number_of, tag}
+use Rattle.box_kind.proofs.KindNumbers.{kinds_and_numbers}
+use Rattle.box_kind.specs.Kind.{kind_of, tag}
 use Rattle.box_kind.specs.declared.Jp2BoxType.TheVariants.{JP, FTYP, JP2H, JP2C}
 use Rattle.read_record.specs.declared.Jp2.{Jp2}
 use Rattle.read_record.specs.Record.{blank, with_state}
@@ -33,18 +34,6 @@ use Rattle.write_rules.proofs.Lengths.{length-header, length-box, length-signatu
 use Rattle.write_rules.proofs.Steps.{onward, file-box, stream-box}
 use Rattle.write_rules.proofs.Bounds.{Fit}
 use Rattle.write_rules.proofs.Header.{after_type, after_cdef, jp2h-read, children_most}
-
-kind_jp : kind_of (number_of JP) ≡ JP
-unfolding kind_of table
-kind_jp = refl
-
-kind_ftyp : kind_of (number_of FTYP) ≡ FTYP
-unfolding kind_of table
-kind_ftyp = refl
-
-kind-jp2h : kind_of (number_of JP2H) ≡ JP2H
-unfolding kind_of table
-kind-jp2h = refl
 
 -- the two boxes that are the same in every file
 signature-read : outer (box_at JP 0 (bytes 4 signature_content)) blank ≡ accepted (with_state 1 blank)
@@ -74,7 +63,7 @@ module _ (r : Request) (fit : Fit r) where
 
   header_read : outer (box_at JP2H 32 (jp2h_content r.components (fields_of r) r.profile)) after_type ≡ accepted (with_header_bit (after_cdef r))
   unfolding outer
-  header_read = rw kind-jp2h (sym (row 2 _ (omega arith) (sym (jp2h-read r fit))))
+  header_read = rw (kinds_and_numbers.kind_back JP2H tt) (sym (row 2 _ (omega arith) (sym (jp2h-read r fit))))
 
   headed : header_bit (with_header_bit (after_cdef r)) ≡ 0 → ⊥
   unfolding with_bit table
@@ -91,11 +80,11 @@ module _ (r : Request) (fit : Fit r) where
   run-whole stream n h =
       let s = stream_header r.codestream ++ stream in
       let most = children_most r fit in
-      onward (file-box JP (bytes 4 signature_content) (file_type ++ (jp2h r.components (fields_of r) r.profile ++ s)) (rw length-bytes (omega arith)) (omega arith) n 0 blank (with_state 1 blank) (λ e. omega (arith, ap tag kind_jp)) h signature-read) 12 (omega (arith, length-signature))
+      onward (file-box JP (bytes 4 signature_content) (file_type ++ (jp2h r.components (fields_of r) r.profile ++ s)) (rw length-bytes (omega arith)) (omega arith) n 0 blank (with_state 1 blank) (λ e. omega (arith, ap tag (kinds_and_numbers.kind_back JP tt))) h signature-read) 12 (omega (arith, length-signature))
       λ n h.
-      onward (file-box FTYP file_type_content (jp2h r.components (fields_of r) r.profile ++ s) (simp (length-append, length-bytes) (omega arith)) (omega arith) n 12 (with_state 1 blank) after_type (λ e. omega (arith, ap tag kind_ftyp)) h type-read) 32 (omega (arith, length-type))
+      onward (file-box FTYP file_type_content (jp2h r.components (fields_of r) r.profile ++ s) (simp (length-append, length-bytes) (omega arith)) (omega arith) n 12 (with_state 1 blank) after_type (λ e. omega (arith, ap tag (kinds_and_numbers.kind_back FTYP tt))) h type-read) 32 (omega (arith, length-type))
       λ n h.
-      onward (file-box JP2H (jp2h_content r.components (fields_of r) r.profile) s (omega arith) (omega arith) n 32 after_type (with_header_bit (after_cdef r)) (λ e. omega (arith, ap tag kind-jp2h)) h header_read) (40 + length (jp2h_content r.components (fields_of r) r.profile)) (omega (arith, length-box JP2H (jp2h_content r.components (fields_of r) r.profile)))
+      onward (file-box JP2H (jp2h_content r.components (fields_of r) r.profile) s (omega arith) (omega arith) n 32 after_type (with_header_bit (after_cdef r)) (λ e. omega (arith, ap tag (kinds_and_numbers.kind_back JP2H tt))) h header_read) (40 + length (jp2h_content r.components (fields_of r) r.profile)) (omega (arith, length-box JP2H (jp2h_content r.components (fields_of r) r.profile)))
       λ n h. run-stream stream n (40 + length (jp2h_content r.components (fields_of r) r.profile)) h
 
   pub reads : (stream : List ℕ) → length (front r.components (fields_of r) r.profile r.codestream) + length stream ≤ 4294967295 → read (front r.components (fields_of r) r.profile r.codestream ++ stream) ≡ codestream (length (front r.components (fields_of r) r.profile r.codestream)) (found r)

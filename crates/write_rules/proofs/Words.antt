@@ -2,9 +2,10 @@
 -- Assumes nothing.
 use Prim.Native.Nat.{ℕ, zero, suc, ◌+◌, ◌≤◌, ◌<◌}
 use mathlib.Core.Path.{◌≡◌, refl, sym, ap, subst, ◌∙◌}
-use mathlib.Core.List.{List, [], ◌∷◌}
+use mathlib.Core.List.{List, []}
 use native.Mathlib.Omega.{arith}
 use lib.ListN.{length}
+use Rattle.std.proofs.lemmas.List.{nil_from_length}
 use Rattle.box_number.specs.Table.{Test, ◌=?◌, ◌≠?◌, table}
 use Rattle.box_number.specs.Lowest.{lowest, some}
 use Rattle.box_number.proofs.Rows.{row, each}
@@ -14,10 +15,6 @@ use Rattle.write_rules.specs.Request.{Request, alpha_of}
 use Rattle.write_rules.specs.Words.{SameBits, OtherBits, enumcs_of, colour_count, Opacity}
 use Rattle.write_rules.specs.Setup.{varies, BPCi, other_bits, BPC, EnumCS, colours, mark_count, N, written_definition, fields_of}
 use Rattle.write_rules.proofs.Bounds.{Fit, meth-one, meth-two, no-space}
-
-pub empty : (l : List ℕ) → length l ≡ 0 → l ≡ []
-empty [] e = refl
-empty (x ∷ xs) e = absurd (omega arith)
 
 -- bits
 module _ (r : Request) where
@@ -71,13 +68,13 @@ colours_of space =
 
 module _ (r : Request) where
   pub profile_or : {X : Type 0} → (r.profile ≡ [] → X) → ((r.profile ≡ [] → ⊥) → X) → X
-  profile_or none some = decide (length r.profile =? 0) (λ z. none (empty r.profile z)) (λ z. some (λ e. z (ap length e)))
+  profile_or none some = decide (length r.profile =? 0) (λ z. none (nil_from_length r.profile z)) (λ z. some (λ e. z (ap length e)))
 
   pub meth-enumerated : r.profile ≡ [] → (fields_of r).meth ≡ 1
   meth-enumerated e = meth-one r (ap length e)
 
   pub meth-profiled : (r.profile ≡ [] → ⊥) → (fields_of r).meth ≡ 2
-  meth-profiled n = meth-two r (λ z. n (empty r.profile z))
+  meth-profiled n = meth-two r (λ z. n (nil_from_length r.profile z))
 
   pub space-is : r.profile ≡ [] → (fields_of r).enumcs ≡ enumcs_of r.space
   unfolding EnumCS enumcs_of

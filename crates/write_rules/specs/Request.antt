@@ -1,5 +1,6 @@
 -- Document 01, "Writing": the input for the boxes before a codestream.
 use Rattle.std.specs.Prelude.{ℕ, ◌+◌, ◌*◌, List, get_or}
+use Rattle.write_rules.specs.declared.Request as lent
 use Rattle.read_record.specs.Component.{prec, sgnd, alpha, numbers_each}
 
 -- count components of 13 numbers each, in one list; the corners of the picture's area; the crate's number of a colour space; an ICC profile, empty for none; the codestream's length
@@ -19,6 +20,10 @@ pub record Request : Type 0 where
 abbrev pub request : List ℕ → ℕ → ℕ → ℕ → ℕ → ℕ → ℕ → List ℕ → ℕ → ℕ → Request
 request comps count x0 y0 x1 y1 space profile codestream room =
     record { components = comps; count = count; x0 = x0; y0 = y0; x1 = x1; y1 = y1; space = space; profile = profile; codestream = codestream; room = room }
+
+-- what the code is asked, with the length of the destination
+abbrev pub asked : lent.Request → ℕ → Request
+asked q room = request q.comps.now q.count q.area.x0 q.area.y0 q.area.x1 q.area.y1 q.space q.profile.now q.codestream room
 
 -- number k of component c, in the order of the crate's opj_image_comp
 abbrev pub component_number : List ℕ → ℕ → ℕ → ℕ

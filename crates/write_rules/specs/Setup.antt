@@ -1,13 +1,12 @@
 -- What `opj_jp2_setup_encoder` makes of a request: every field of every box, under the standard's names, or 31, 29 or 32.
 use Rattle.std.specs.Prelude.{ℕ, zero, suc, ◌+◌, ◌-◌, ◌*◌, ◌%◌, List, length}
 use Rattle.box_number.specs.Table.{Test, ◌=?◌, ◌≠?◌, ◌<?◌, ◌or◌, otherwise, ◌⇒◌∣◌, table}
+use Rattle.box_refusal.specs.Told.{Told, accepted, refused}
 use Rattle.read_record.specs.Component.{most_components, numbers_each}
 use Rattle.read_colour.specs.Colr.{enumerated, profiled}
 use Rattle.read_channels.specs.Definitions.{Def, def}
 use Rattle.box_number.specs.Lowest.{lowest, some}
 use Rattle.write_rules.specs.declared.Fields.{Fields}
-use Rattle.write_rules.specs.declared.Encoder.{Encoder}
-use Rattle.write_rules.specs.declared.Encoder.TheVariants.{Ready, Refused}
 use Rattle.write_rules.specs.Request.{Request, precision, sign_of, alpha_of}
 
 -- a minus b, wrapping at 2^32
@@ -149,11 +148,11 @@ abbrev pub ill : List ℕ → ℕ → Test
 ill comps c = precision comps c =? 0 or most_bits <? precision comps c or 1 <? sign_of comps c
 
 -- numbers 31, 29 and 32, in that order, or the fields
-unfoldable pub set_up : Request → Encoder
+unfoldable pub set_up : Request → Told Fields
 set_up r =
     let wrong = lowest (ill r.components) r.count in
     table
-    (r.count =? 0 or most_components <? r.count ⇒ Refused 31 0
-    ∣ length r.components <? numbers_each * r.count ⇒ Refused 29 0
-    ∣ wrong <? r.count ⇒ Refused 32 wrong
-    ∣ otherwise (Ready (fields_of r)))
+    (r.count =? 0 or most_components <? r.count ⇒ refused 31 0
+    ∣ length r.components <? numbers_each * r.count ⇒ refused 29 0
+    ∣ wrong <? r.count ⇒ refused 32 wrong
+    ∣ otherwise (accepted (fields_of r)))

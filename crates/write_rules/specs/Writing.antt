@@ -1,10 +1,9 @@
 -- Writing all boxes before a codestream, and its header: a request is set up (31, 29 and 32), and its fields are written (33, 34 and 30).
 use Rattle.std.specs.Prelude.{ℕ, List, ◌++◌, length}
 use Rattle.box_number.specs.Number.{placed}
+use Rattle.box_refusal.specs.Told.{Told, accepted, refused}
 use Rattle.box_number.specs.Table.{◌=?◌, ◌<?◌, ◌or◌, otherwise, ◌⇒◌∣◌, table}
 use Rattle.write_rules.specs.declared.Fields.{Fields}
-use Rattle.write_rules.specs.declared.Encoder.{Encoder}
-use Rattle.write_rules.specs.declared.Encoder.TheVariants.{Ready, Refused}
 use Rattle.write_rules.specs.Request.{Request}
 use Rattle.write_rules.specs.Setup.{set_up}
 use Rattle.write_rules.specs.Signature.{signature}
@@ -39,9 +38,9 @@ write_fields comps s profile codestream room =
     ∣ otherwise (written bytes))
 
 -- what is written after setting up
-abbrev pub after_set_up : Request → Encoder → Writing
-after_set_up r (Ready s) = write_fields r.components s r.profile r.codestream r.room
-after_set_up r (Refused number index) = declined number index
+abbrev pub after_set_up : Request → Told Fields → Writing
+after_set_up r (accepted s) = write_fields r.components s r.profile r.codestream r.room
+after_set_up r (refused number index) = declined number index
 
 unfoldable pub write : Request → Writing
 write r = after_set_up r (set_up r)

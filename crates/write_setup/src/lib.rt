@@ -1,27 +1,20 @@
 // What is to be written of a picture (`opj_jp2_setup_encoder` of jp2.rs): the fields of all boxes, from its components, corners, colour space and profile.
 #![tactic(auto)]
 
-ghost use Rattle.std.specs.Prelude.{◌≡◌, false};
-ghost use Rattle.box_number.specs.Table.{◌≠?◌, otherwise, ◌⇒◌∣◌, holds, table, Says};
-ghost use Rattle.box_number.specs.Lowest.{lowest};
-ghost use Rattle.write_rules.specs.Request.{request, alpha_of};
-ghost use Rattle.write_rules.specs.Setup.{other_bits, BPC, METH, EnumCS, colours, mark_count, opacity, N, ill, set_up};
+ghost use Rattle.std.specs.Prelude.{◌≡◌, false, Some, None};
+ghost use Rattle.box_number.specs.Table.{◌≠?◌, otherwise, ◌⇒◌∣◌, table, holds, Says};
+ghost use Rattle.box_number.specs.Lowest.{some};
+ghost use Rattle.box_refusal.specs.Told.{told};
+ghost use Rattle.write_rules.specs.Request.{asked, alpha_of};
+ghost use Rattle.write_rules.specs.Setup.{other_bits, BPCi, BPC, METH, EnumCS, colours, mark_count, N, ill, set_up};
+ghost use Rattle.box_number.specs.Lowest.{found};
 
-use read_record::{ALPHA, COMPONENT_NUMBERS, PREC, SGND};
-use write_rules::{Encoder, Fields};
+use box_refusal::{Cause, Refusal};
+use read_record::{ALPHA, COMPONENT_NUMBERS, MOST_COMPONENTS, PREC, SGND};
+use write_rules::{ENUMERATED, Fields, PROFILE, Request, VARIES};
 
-// The limits of a JP2 file.
-const MOST_COMPONENTS: u32 = 16384;
-
+// The most bits of a sample.
 const MOST_BITS: u32 = 38;
-
-// The value of bpc where the components have not the same number of bits.
-const VARIES: u32 = 255;
-
-// Methods: an enumerated colour space, a profile.
-const ENUMERATED: u32 = 1;
-
-const PROFILE: u32 = 2;
 
 // Enumerated colour spaces.
 const SRGB: u32 = 16;
@@ -35,66 +28,68 @@ fn is_ill(comps: &[u32], c: u32) -> bool
     ensures { result ≡ holds (ill comps.now c) }
 {
     let precision = read_record::component(comps, c, PREC);
-    if precision == 0 {
-        return true;
-    }
-    if MOST_BITS < precision {
-        return true;
-    }
-    1 < read_record::component(comps, c, SGND)
+    precision == 0 || MOST_BITS < precision || 1 < read_record::component(comps, c, SGND)
 }
 
-// The first such component; the count where there is none.
-fn first_ill(comps: &[u32], count: u32) -> u32
-    ensures { result ≡ lowest (ill comps.now) count }
+// The first such component.
+fn first_ill(r: &Request<'_>) -> Option<u32>
+    ensures { result ≡ found (ill r.now.comps.now) r.now.count }
 {
-    let mut c: u32 = 0;
-    while c < count {
-        if is_ill(comps, c) {
-            return c;
-        }
-        c += 1;
-    }
-    count
+    (0..r.count).find(|c| is_ill(r.comps, *c))
 }
 
-// The first component that has not as many bits as component 0; the count where there is none.
-fn first_other(comps: &[u32], count: u32) -> u32
-    ensures { result ≡ lowest (other_bits comps.now) count }
+// Whether component c has not as many bits as component 0.
+fn has_other_bits(comps: &[u32], c: u32) -> bool
+    ensures { result ≡ holds (other_bits comps.now c) }
 {
-    let bits = read_record::component(comps, 0, PREC);
-    let mut c: u32 = 0;
-    while c < count {
-        if read_record::component(comps, c, PREC) != bits {
-            return c;
-        }
-        c += 1;
+    read_record::component(comps, c, PREC) != read_record::component(comps, 0, PREC)
+}
+
+// Bits less 1 of component c, and its sign as the top bit. None where the component is ill.
+#[tactic(auto, unfolding(write_rules::specs::Setup::BPCi, box_number::specs::Table::table))]
+pub fn component_bits(comps: &[u32], c: u32) -> Option<u32>
+    ensures { result ≡ table (ill comps.now c ⇒ None ∣ otherwise (Some (BPCi comps.now c))) }
+{
+    if is_ill(comps, c) {
+        return None;
     }
-    count
+    Some(read_record::component(comps, c, PREC) - 1 + 128 * read_record::component(comps, c, SGND))
+}
+
+// Whether some component has not as many bits as component 0.
+fn bits_vary(r: &Request<'_>) -> bool
+    ensures { result ≡ holds (some (other_bits r.now.comps.now) r.now.count) }
+{
+    (0..r.count).any(|c| has_other_bits(r.comps, c))
 }
 
 // What all components have, bits less 1 and the sign as top bit, or VARIES.
-fn bits(comps: &[u32], count: u32) -> u32
-    requires { Says false (ill comps.now 0) }
-    ensures { result ≡ BPC comps.now count }
+#[tactic(auto, unfolding(write_rules::specs::Setup::BPC, box_number::specs::Table::table))]
+fn bits(r: &Request<'_>) -> u32
+    requires { Says false (ill r.now.comps.now 0) }
+    ensures { result ≡ BPC r.now.comps.now r.now.count }
 {
-    if first_other(comps, count) < count {
-        return VARIES;
+    if bits_vary(r) {
+        VARIES
+    } else {
+        component_bits(r.comps, 0).unwrap()
     }
-    read_record::component(comps, 0, PREC) - 1 + 128 * read_record::component(comps, 0, SGND)
 }
 
 // The method: a profile, or an enumerated colour space.
+#[tactic(auto, unfolding(write_rules::specs::Setup::METH, box_number::specs::Table::table))]
 fn method(profile: &[u8]) -> u32
     ensures { result ≡ METH profile.now }
 {
-    if profile.len() == 0 {
-        return ENUMERATED;
+    if profile.is_empty() {
+        ENUMERATED
+    } else {
+        PROFILE
     }
-    PROFILE
 }
 
 // The enumerated colour space: sRGB, greyscale or sYCC; 0 with a profile, and where it is another.
+#[tactic(auto, unfolding(write_rules::specs::Setup::EnumCS, box_number::specs::Table::table))]
 fn enumerated(meth: u32, space: u32) -> u32
     ensures { result ≡ EnumCS meth space }
 {
@@ -110,6 +105,7 @@ fn enumerated(meth: u32, space: u32) -> u32
 }
 
 // The count of colours of an enumerated colour space.
+#[tactic(auto, unfolding(write_rules::specs::Setup::colours, box_number::specs::Table::table))]
 fn colour_count(enumcs: u32) -> u32
     ensures { result ≡ colours enumcs }
 {
@@ -121,101 +117,76 @@ fn colour_count(enumcs: u32) -> u32
     }
 }
 
+// Whether component c is marked.
+fn is_marked(comps: &[u32], c: u32) -> bool
+    ensures { result ≡ holds (alpha_of comps.now c ≠? 0) }
+{
+    read_record::component(comps, c, ALPHA) != 0
+}
+
 // The count of marked components.
-fn mark_count(comps: &[u32], count: u32) -> u32
-    ensures { result ≡ mark_count comps.now count }
+fn mark_count(r: &Request<'_>) -> usize
+    ensures { result ≡ mark_count r.now.comps.now r.now.count }
 {
-    let mut marked: u32 = 0;
-    let mut c: u32 = 0;
-    while c < count {
-        marked += is_marked(comps, c);
-        c += 1;
-    }
-    marked
+    (0..r.count).filter(|c| is_marked(r.comps, *c)).count()
 }
 
-// 1 where component c is marked, else 0.
-fn is_marked(comps: &[u32], c: u32) -> u32
-    ensures { result ≡ table (alpha_of comps.now c ≠? 0 ⇒ 1 ∣ otherwise 0) }
+// The first component that is marked.
+fn first_marked(r: &Request<'_>) -> Option<u32>
+    ensures { result ≡ found (λ c. alpha_of r.now.comps.now c ≠? 0) r.now.count }
 {
-    if read_record::component(comps, c, ALPHA) != 0 {
-        return 1;
-    }
-    0
-}
-
-// The first component that is marked; the count where none is.
-fn first_marked(comps: &[u32], count: u32) -> u32
-    ensures { result ≡ opacity comps.now count }
-{
-    let mut c: u32 = 0;
-    while c < count {
-        if read_record::component(comps, c, ALPHA) != 0 {
-            return c;
-        }
-        c += 1;
-    }
-    count
+    (0..r.count).find(|c| is_marked(r.comps, *c))
 }
 
 // The count of definitions in cdef: all components are defined where exactly one is marked, and it comes after the colours.
-fn definition_count(comps: &[u32], count: u32, colours: u32) -> u32
-    ensures { result ≡ N comps.now count colours }
+#[tactic(auto, unfolding(write_rules::specs::Setup::N, box_number::specs::Table::table))]
+fn definition_count(r: &Request<'_>, colours: u32) -> u32
+    ensures { result ≡ N r.now.comps.now r.now.count colours }
 {
-    if mark_count(comps, count) != 1 {
+    if mark_count(r) != 1 {
         return 0;
     }
-    if colours == 0 {
-        return 0;
+    match first_marked(r) {
+        Some(opacity) if colours != 0 && colours <= opacity => r.count,
+        _ => 0,
     }
-    if first_marked(comps, count) < colours {
-        return 0;
-    }
-    count
 }
 
-// Sets up the fields of the boxes; comps holds count components of 13 numbers each. The codestream's length and the room for the boxes are not used here, so the contract has 0 for both.
-pub fn opj_jp2_setup_encoder(
-    comps: &[u32],
-    count: u32,
-    x0: u32,
-    y0: u32,
-    x1: u32,
-    y1: u32,
-    space: u32,
-    profile: &[u8],
-) -> Encoder
-    ensures { result ≡ set_up (request comps.now count x0 y0 x1 y1 space profile.now 0 0) }
+// Sets up the fields of the boxes. The room for the boxes is not used here, so the contract has 0 for it.
+#[tactic(auto, unfolding(write_rules::specs::Setup::set_up, box_number::specs::Table::table))]
+pub fn opj_jp2_setup_encoder(r: &Request<'_>) -> Result<Fields, Refusal<u32>>
+    ensures { told result ≡ set_up (asked r.now 0) }
 {
-    if count == 0 {
-        return Encoder::Refused(31, 0);
+    if r.count == 0 || MOST_COMPONENTS < r.count {
+        return Err(Refusal {
+            cause: Cause::ComponentCount,
+            place: 0,
+        });
     }
-    if MOST_COMPONENTS < count {
-        return Encoder::Refused(31, 0);
+    if r.comps.len() < COMPONENT_NUMBERS * r.count as usize {
+        return Err(Refusal {
+            cause: Cause::OutsideItsList,
+            place: 0,
+        });
     }
-    if comps.len() < COMPONENT_NUMBERS * count as usize {
-        return Encoder::Refused(29, 0);
+    if let Some(wrong) = first_ill(r) {
+        return Err(Refusal {
+            cause: Cause::Precision,
+            place: wrong,
+        });
     }
-    let wrong = first_ill(comps, count);
-    if wrong < count {
-        return Encoder::Refused(32, wrong);
-    }
-    let bpc = bits(comps, count);
-    let meth = method(profile);
-    let enumcs = enumerated(meth, space);
+    let area = r.area;
+    let meth = method(r.profile);
+    let enumcs = enumerated(meth, r.space);
     let colours = colour_count(enumcs);
-    let definitions = definition_count(comps, count, colours);
-    let h = std::num::wrapping_sub_u32(y1, y0);
-    let w = std::num::wrapping_sub_u32(x1, x0);
-    let fields = Fields {
-        h,
-        w,
-        numcomps: count,
-        bpc,
+    Ok(Fields {
+        h: area.y1.wrapping_sub(area.y0),
+        w: area.x1.wrapping_sub(area.x0),
+        numcomps: r.count,
+        bpc: bits(r),
         meth,
         enumcs,
         colours,
-        definitions,
-    };
-    Encoder::Ready(fields)
+        definitions: definition_count(r, colours),
+    })
 }

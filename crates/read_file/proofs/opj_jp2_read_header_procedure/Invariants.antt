@@ -4,8 +4,8 @@ use Rattle.read_rules.specs.File.{run}
 use Rattle.read_file.proofs.Walking.{Going}
 use Rattle.read_file.proofs.opj_jp2_read_header_procedure.Given as goal
 
-abbrev pub invariant-loop-rest : goal.invariant-loop-rest
-invariant-loop-rest l = Going (run (boxes 0 l.s) l.j) l.at l.rest l.k
+abbrev pub invariant-loop-found : goal.invariant-loop-found
+invariant-loop-found l = Going (run (boxes 0 l.s) l.fn.j) l.at l.rest l.k
 
-abbrev pub decreases-loop-rest : goal.decreases-loop-rest
-decreases-loop-rest l = length l.rest
+abbrev pub decreases-loop-found : goal.decreases-loop-found
+decreases-loop-found l = length l.rest

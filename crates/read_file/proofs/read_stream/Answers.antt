@@ -1,15 +1,12 @@
-use native.Mathlib.Omega.{arith}
-use mathlib.Core.Path.{refl}
-use Rattle.box_number.proofs.Rows.{row}
-use Rattle.read_record.specs.Record.{with_state}
-use Rattle.read_record.specs.State.{with_bit}
-use Rattle.read_rules.specs.File.{codestream, reading}
-use Rattle.read_file.proofs.Turns.{gives}
+use mathlib.Core.Bool.{true, false}
+use mathlib.Core.Path.{refl, sym, ◌∙◌}
+use Rattle.box_number.specs.Table.{◌≠?◌}
+use Rattle.box_number.proofs.Rows.{row, said}
+use Rattle.read_record.specs.State.{header_bit}
 use Rattle.read_file.proofs.read_stream.Goals as goal
 
-pub returns-then-status-eq0 : goal.returns-then-status-eq0
-returns-then-status-eq0 c = gives _ _ _ c.refuse.ensures (row 0 _ (omega arith) refl)
+pub returns-then-not-has : goal.returns-then-not-has
+returns-then-not-has c = rw c.refused.ensures (row 0 _ (said false (header_bit c.args.k ≠? 0) (sym c.has.ensures ∙ c.if-not-has.true)) refl)
 
 pub returns : goal.returns
-unfolding reading
-returns c = let a = c.args in gives a.j (codestream a.start (with_state (with_bit 8 a.k.status.state) a.k)) _ (cc) (row 1 _ (omega arith) refl)
+returns c = row 1 _ (said true (header_bit c.args.k ≠? 0) (sym c.has.ensures ∙ c.if-not-has.false), tt) (cc)

@@ -1,5 +1,6 @@
 -- What a place of a file has, and the answer of a box of the header, for the walk's own functions.
-use Rattle.std.specs.Prelude.{ℕ, ◌+◌, ◌≤◌, ◌≡◌, List, [], length}
+use Rattle.std.specs.Prelude.{ℕ, ◌+◌, ◌≤◌, ◌≡◌, List, [], length, Option}
+use Rattle.std.specs.Prelude as std
 use Rattle.box_number.specs.Table.{Test, ◌=?◌, ◌≠?◌, ◌<?◌, ◌or◌, ◌and◌, otherwise, ◌⇒◌∣◌, table}
 use Rattle.box_kind.specs.Kind.{kind_of, tag, ◌is◌}
 use Rattle.box_kind.specs.declared.Jp2BoxType.{Jp2BoxType}
@@ -12,17 +13,17 @@ use Rattle.read_record.specs.Answer.{Result, accepted}
 use Rattle.read_jp2h.specs.Split.{Box}
 use Rattle.read_jp2h.specs.HeaderBox.{header_box}
 use Rattle.read_file.specs.declared.Found.{Found}
-use Rattle.read_file.specs.declared.Found.TheVariants.{Nothing, Codestream, Short, Past, Whole}
+use Rattle.read_file.specs.declared.Found.TheVariants.{Codestream, Short, Past, Whole}
 
--- what the file has at the first byte of c
-unfoldable pub found : List ℕ → Found
+-- what the file has at the first byte of c: nothing where no header is there
+unfoldable pub found : List ℕ → Option Found
 found c =
     table
-    (length c <? length_of_header c or largest <? box_length c ⇒ Nothing
-    ∣ kind_of (TBox c) is JP2C ⇒ Codestream (length_of_header c)
-    ∣ box_length c <? length_of_header c ⇒ Short
-    ∣ length c <? box_length c ⇒ Past (header_of c)
-    ∣ otherwise (Whole (header_of c)))
+    (length c <? length_of_header c or largest <? box_length c ⇒ std.None
+    ∣ kind_of (TBox c) is JP2C ⇒ std.Some (Codestream (length_of_header c))
+    ∣ box_length c <? length_of_header c ⇒ std.Some Short
+    ∣ length c <? box_length c ⇒ std.Some (Past (header_of c))
+    ∣ otherwise (std.Some (Whole (header_of c))))
 
 -- a header that was read from c, whose box lies in it; c reaches no further than 32 bits from a place on
 pub record Heads (at : ℕ) (c : List ℕ) (h : Jp2BoxHeader) : Type 0 where

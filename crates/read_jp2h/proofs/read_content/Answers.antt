@@ -1,5 +1,3 @@
-use mathlib.Core.Path.{refl}
-use Rattle.read_record.proofs.Told.{success}
 use Rattle.read_jp2h.proofs.Reading.{read_as, read_none}
 use Rattle.read_jp2h.proofs.read_content.Goals as goal
 
@@ -22,4 +20,4 @@ pub returns-in-CDEF : goal.returns-in-CDEF
 returns-in-CDEF c = read_as _ _ _ _ c.in-CDEF.is c.opj_jp2_read_cdef.ensures
 
 pub returns-in_default : goal.returns-in_default
-returns-in_default c = let a = c.args in let d = c.in_default in read_none a.place a.start a.c.now a.j a.ty (d.not-IHDR, d.not-COLR, d.not-PCLR, d.not-CMAP, d.not-CDEF, d.not-BPCC) (success _ _ _ c.done.ensures refl)
+returns-in_default c = let a = c.args in let d = c.in_default in read_none a.at.place a.at.start a.c.now a.j a.ty (d.not-IHDR, d.not-COLR, d.not-PCLR, d.not-CMAP, d.not-CDEF, d.not-BPCC) (rw c.unknown-k.ensures)

@@ -1,10 +1,7 @@
-use Prim.Native.Nat.{◌≤◌, ◌*◌, ◌-◌}
+use Prim.Native.Nat.{◌≤◌, ◌*◌}
 use mathlib.Core.Path.{◌≡◌}
 use Rattle.read_palette.specs.Pclr.{row_bytes}
 use Rattle.read_palette.proofs.row_bytes.Given as goal
 
 abbrev pub invariant-loop-i : goal.invariant-loop-i
-invariant-loop-i l = (l.i ≤ l.columns) × (l.sum ≤ 4 * l.i) × (l.sum ≡ row_bytes l.s l.at l.i)
-
-abbrev pub decreases-loop-i : goal.decreases-loop-i
-decreases-loop-i l = l.columns - l.i
+invariant-loop-i l = (l.sum ≤ 4 * l.i) × (l.sum ≡ row_bytes l.s l.at l.i)

@@ -1,7 +1,5 @@
 -- The parts of a picture in the list, from the bytes that begin with the picture. A number has 4 bytes; a list of numbers begins with its length.
-use Rattle.std.specs.Prelude.{ℕ, zero, suc, ◌+◌, ◌*◌, ◌/◌, ◌%◌, List, [], ◌∷◌, ◌++◌, ℤ, length}
-use Rattle.std.specs.Int.{w32}
-use Rattle.std.proofs.Common.{to_z}
+use Rattle.std.specs.Prelude.{ℕ, ◌+◌, ◌*◌, ◌/◌, ◌%◌, List, length}
 use Rattle.box_number.specs.Number.{number, part}
 use Rattle.box_number.specs.Table.{◌=?◌, ◌<?◌, otherwise, ◌⇒◌∣◌, table}
 
@@ -58,12 +56,3 @@ planes_of p = part (rooms_of p) (records_end (rooms_of p)) (length (rooms_of p))
 -- what a lent list has at place i: the listed number, and behind the listed numbers a pattern in which no two neighbours are the same
 unfoldable pub content_at : List ℕ → ℕ → ℕ
 content_at listed i = table (i <? length listed / 4 ⇒ number_at listed i ∣ otherwise (i % 65536 + 0xa5a50000))
-
--- the same in a list of samples: a number from 2^31 up is a sample below 0
-abbrev pub sample_content : List ℕ → ℕ → ℤ
-sample_content listed i = to_z w32 (content_at listed i)
-
--- the list of what a function gives for 0, 1, .. up to the one before n
-unfoldable pub list_to : {A : Type 0} → (ℕ → A) → ℕ → List A
-list_to f zero = []
-list_to f (suc n) = list_to f n ++ (f n ∷ [])

@@ -1,4 +1,4 @@
-use Rattle.std.proofs.Common.{refl, ap, arith, slice_set}
+use Rattle.std.proofs.Common.{refl, arith}
 use Rattle.box_number.proofs.Rows.{row}
 use Rattle.test_lines.specs.Lines.{tallied}
 use Rattle.test_lines.proofs.count.Goals as goal
@@ -6,7 +6,7 @@ use Rattle.test_lines.proofs.count.Goals as goal
 pub returns-then-k-tally : goal.returns-then-k-tally
 unfolding tallied
 returns-then-k-tally c =
-    row 0 _ (omega arith) (ap (slice_set c.args.tally.now c.args.k) c.wrapping_add_usize.ensures.value)
+    row 0 _ (omega arith) refl
 
 pub returns-else-k-tally : goal.returns-else-k-tally
 unfolding tallied

@@ -1,10 +1,9 @@
-use Rattle.std.proofs.Common.{ap, ◌∙◌}
-use Rattle.text.specs.Text.{line}
-use Rattle.text.proofs.Lines.{part-rest}
+use Rattle.std.proofs.Common.{eqb, rules, refl, tests}
+use Rattle.std.proofs.lemmas.Iterator.Consumers.{nth_from_yields_List}
+use Rattle.std.proofs.lemmas.Iterator.Splits.{YieldsList-from_slice_split}
+use Rattle.text.proofs.Lines.{nth-line}
 use Rattle.text.proofs.line.Goals as goal
 
 pub returns : goal.returns
 returns c =
-    c.first_line.ensures
-    ∙ ap (line c.args.end 0) (c.part.ensures ∙ part-rest c.args.lines.now c.line_start-start.result)
-    ∙ c.line_start-start.ensures
+    nth-line c.args.end c.args.n c.args.lines.now _ _ _ (nth_from_yields_List _ _ c.args.n c.nth.ensures.ran (YieldsList-from_slice_split _ (λ b. eqb b c.args.end) c.args.lines.now c.split.ensures.rest c.split.ensures.done c.split.ensures.closure (λ x b q k. search (rules, tests)))) refl c.unwrap_or.ensures

@@ -1,12 +1,10 @@
 use Rattle.std.proofs.Common.{arith}
-use lib.ListN.{drop_of_length-le}
-use Rattle.text.proofs.Puts.{turn, done}
-use Rattle.text.proofs.Shapes.{drop-turn}
+use Rattle.text.proofs.Puts.{put-past, put_part}
 use Rattle.text.proofs.text.Goals as goal
 
-pub loop-i-preserved : goal.loop-i-preserved
-loop-i-preserved c =
-    (omega arith, turn _ c.loop-i.invariant.1 (drop-turn c.args.s.now c.loop-i.i (omega arith)) c.byte-k.ensures)
+pub returns-then-d-at : goal.returns-then-d-at
+returns-then-d-at c = put-past _ _ _ (omega arith)
 
 pub returns : goal.returns
-returns c = done c.loop-i.invariant.1 (drop_of_length-le c.args.s.now {i = c.loop-i.i} (omega arith))
+returns c =
+    put_part _ _ _ _ _ _ (omega arith) c.min.ensures (omega arith) c.copy_from_slice.ensures.after

@@ -1,20 +1,12 @@
-use Rattle.std.proofs.Common.{refl, arith}
-use Rattle.box_number.proofs.Rows.{row}
-use Rattle.write_rules.specs.Setup.{N}
+use Rattle.std.proofs.Common.{sym, ◌∙◌, arith}
+use Rattle.box_number.proofs.Indices.{lowest-none}
+use Rattle.write_setup.proofs.Marks.{marked, marks-none}
+use Rattle.write_setup.proofs.Ranges.{first-none}
 use Rattle.write_setup.proofs.definition_count.Goals as goal
 
-pub returns-then-mark_count-ne1 : goal.returns-then-mark_count-ne1
-unfolding N
-returns-then-mark_count-ne1 c = row 0 _ (λ z. omega arith) refl
-
-pub returns-then-colours-eq0 : goal.returns-then-colours-eq0
-unfolding N
-returns-then-colours-eq0 c = row 1 _ (omega arith) refl
-
-pub returns-then-first_marked-colours : goal.returns-then-first_marked-colours
-unfolding N
-returns-then-first_marked-colours c = row 2 _ (omega arith) refl
-
-pub returns : goal.returns
-unfolding N
-returns c = row 3 _ (omega arith) refl
+-- where one is marked, there is a first
+pub returns-in_default-3 : goal.returns-in_default-3
+returns-in_default-3 c = let a = c.args.r.now in
+    let t = marked a.comps.now in
+    let none = marks-none a.comps.now a.count (lowest-none t a.count (first-none t a.count (sym c.in_default.is ∙ c.first_marked.ensures))) in
+    absurd (omega arith)

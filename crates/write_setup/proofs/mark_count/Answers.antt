@@ -1,23 +1,14 @@
-use Rattle.std.proofs.Common.{◌≡◌, refl, ap, ◌∙◌, add-one, arith}
-use Rattle.write_rules.specs.Setup.{mark_count}
-use Rattle.write_setup.proofs.Marks.{once, marks-next}
+use Rattle.std.proofs.Common.{◌∙◌, rules, arith}
+use Rattle.std.specs.List.{range_with_len}
+use Rattle.std.proofs.lemmas.Iterator.{YieldsList-from_range}
+use Rattle.std.proofs.lemmas.Iterator.Consumers.{YieldsList-from_filter, count_from_yields_List}
+use Rattle.std.proofs.lemmas.List.Sums.{length-filter}
+use borrow.Author.Tests.{tests}
+use Rattle.box_number.specs.Table.{holds}
+use Rattle.write_setup.proofs.Marks.{marked, marks-counted}
 use Rattle.write_setup.proofs.mark_count.Goals as goal
 
-pub loop-c-init : goal.loop-c-init
-unfolding mark_count
-loop-c-init c = (omega arith, refl, omega arith)
-
-pub overflow_add-marked : goal.overflow_add-marked
-overflow_add-marked c = let a = c.args in let l = c.loop-c in omega (arith, once a.comps.now l.c c.is_marked-marked.ensures)
-
-pub loop-c-preserved : goal.loop-c-preserved
-loop-c-preserved c = let a = c.args in
-    let l = c.loop-c in
-    let r = a.comps.now in (
-      omega arith,
-      rw (add-one l.c) (marks-next r l.c c.is_marked-marked.ensures l.invariant.1),
-      omega (arith, once r l.c c.is_marked-marked.ensures),
-    )
-
 pub returns : goal.returns
-returns c = let a = c.args in let l = c.loop-c in let e : l.c ≡ a.count = omega arith in l.invariant.1 ∙ ap (mark_count a.comps.now) e
+returns c = let a = c.args.r.now in
+    count_from_yields_List c.filter.result _ c.count.ensures.ran (YieldsList-from_filter _ (λ i. holds (marked a.comps.now i)) (YieldsList-from_range 0 a.count a.count c.filter.ensures.source (omega arith)) c.filter.ensures.closure (λ x b q k. search (rules, tests)))
+    ∙ length-filter _ (range_with_len 0 a.count) ∙ marks-counted a.comps.now a.count

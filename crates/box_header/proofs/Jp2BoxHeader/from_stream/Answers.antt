@@ -22,7 +22,7 @@ unfolding header
 returns-then-lbox-eq0 c = let s = c.args.c.now in
     let hl = header_8 s (omega arith) in
     let bl = box-all s (omega arith) in
-    row 3 _ (omega arith) (header_made s (sym bl) c.read_u32.ensures c.from_u32-ty.ensures (sym hl))
+    row 3 _ (omega arith) (header_made s (sym bl) c.read_u32.ensures c.from-ty.ensures (sym hl))
 
 pub returns-then-c-lt16 : goal.returns-then-c-lt16
 unfolding header
@@ -37,11 +37,11 @@ unfolding header
 returns-then-lbox-eq1 c = let s = c.args.c.now in
     let hl = header_16 s (omega arith) in
     let bl = box-long s (omega arith) in
-    row 3 _ (omega arith) (header_made s (omega arith) c.read_u32.ensures c.from_u32-ty.ensures (sym hl))
+    row 3 _ (omega arith) (header_made s (omega arith) c.read_u32.ensures c.from-ty.ensures (sym hl))
 
 pub returns : goal.returns
 unfolding header
 returns c = let s = c.args.c.now in
     let hl = header_8 s (omega arith) in
     let bl = box-plain s (omega arith) (omega arith) in
-    row 3 _ (omega arith) (header_made s (omega arith) c.read_u32.ensures c.from_u32-ty.ensures (sym hl))
+    row 3 _ (omega arith) (header_made s (omega arith) c.read_u32.ensures c.from-ty.ensures (sym hl))

@@ -11,7 +11,7 @@ pub returns-then-n-gt1 : goal.returns-then-n-gt1
 unfolding first_character part
 returns-then-n-gt1 c = puts-same _ _ (c.part.ensures ∙ rw sub-zero (row 0 _ (omega arith) refl)) c.text.ensures
 
-pub returns : goal.returns
+pub returns-else-n-gt1 : goal.returns-else-n-gt1
 unfolding first_character
-returns c =
+returns-else-n-gt1 c =
     puts-same _ _ (row 1 _ (omega arith) (ap (shown_byte _) (c.read_u8.ensures ∙ number-byte c.args.s.now 0))) c.shown.ensures

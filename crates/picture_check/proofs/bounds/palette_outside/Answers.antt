@@ -1,26 +1,13 @@
 use native.Mathlib.Omega.{arith}
 use Prim.Native.Nat.{◌+◌, ◌*◌}
 use mathlib.Core.Path.{◌∙◌}
-use mathlib.Core.Bool.{true, false}
 use lib.ListN.{length}
 use Rattle.box_number.specs.Number.{lies_outside}
 use Rattle.read_palette.proofs.Entries.{rows-most}
 use Rattle.picture_rules.specs.Finish.{palette_outside}
-use Rattle.box_number.proofs.Answers.{shown, same}
+use Rattle.box_number.proofs.Answers.{same}
 use Rattle.picture_check.proofs.Rows.{rows-file}
 use Rattle.picture_check.proofs.bounds.palette_outside.Goals as goal
-
-pub returns-then-columns-eq0 : goal.returns-then-columns-eq0
-returns-then-columns-eq0 c = let a = c.args in shown false (palette_outside a.f.now a.p) (omega arith)
-
-pub returns-then-entries-eq0 : goal.returns-then-entries-eq0
-returns-then-entries-eq0 c = let a = c.args in shown true (palette_outside a.f.now a.p) (omega arith)
-
-pub returns-then-entries-gt-MOST_ENTRIES : goal.returns-then-entries-gt-MOST_ENTRIES
-returns-then-entries-gt-MOST_ENTRIES c = let a = c.args in shown true (palette_outside a.f.now a.p) (omega arith)
-
-pub returns-then-columns-gt-MOST_COLUMNS : goal.returns-then-columns-gt-MOST_COLUMNS
-returns-then-columns-gt-MOST_COLUMNS c = let a = c.args in shown true (palette_outside a.f.now a.p) (omega arith)
 
 pub overflow_mul-entries : goal.overflow_mul-entries
 overflow_mul-entries c = omega (arith, rows-most _ _ _ c.args.p.entries (omega arith) (omega arith) c.row_bytes-row.ensures)

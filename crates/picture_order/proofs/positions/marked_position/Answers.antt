@@ -7,6 +7,6 @@ pub returns-then-edition2-eq0 : goal.returns-then-edition2-eq0
 unfolding marked_position
 returns-then-edition2-eq0 c = row 0 _ c.if-edition2-eq0.true refl
 
-pub returns : goal.returns
+pub returns-else-edition2-eq0 : goal.returns-else-edition2-eq0
 unfolding marked_position
-returns c = row 1 _ (c.if-edition2-eq0.false, tt) refl
+returns-else-edition2-eq0 c = row 1 _ (c.if-edition2-eq0.false, tt) refl

@@ -1,2 +1,0 @@
--- Terms of the contracts of private functions. No public contract names them.
-pub mod Load

@@ -1,7 +1,0 @@
-use mathlib.Core.Path.{refl}
-use Rattle.read_rules.specs.File.{reading}
-use Rattle.read_file.proofs.ended.Goals as goal
-
-pub returns : goal.returns
-unfolding reading
-returns c = refl

@@ -1,7 +1,0 @@
-use Rattle.read_jp2h.proofs.closed.Goals as goal
-
-pub returns-then-alone : goal.returns-then-alone
-returns-then-alone c = rw c.if-alone.true
-
-pub returns : goal.returns
-returns c = rw (c.if-alone.false, c.with_header.ensures)
