@@ -149,7 +149,7 @@ fn read_whole(c: &[u8], place: u32, h: Jp2BoxHeader, k: Jp2) -> Result<Jp2, Refu
     requires { Heads place c.now h }
     ensures { told result ≡ outer (first_box place c.now) k }
 {
-    let content = &c[h.header_length as usize..h.length as usize];
+    let content = &c[h.header_length as usize..(h.header_length + h.content_length()) as usize];
     let at = At {
         place,
         start: place + h.header_length,
