@@ -96,7 +96,7 @@ impl Jp2BoxHeader {
         Jp2BoxHeader::from_stream(c)
     }
 
-    // Length and kind, 8 bytes, to a place of d; whether they had room there.
+    // Length and kind, 8 bytes, to a place of d; whether they had room there. The list and the place are two parameters, as in `opj_write_bytes`.
     pub fn write(self, d: &mut [u8], at: usize) -> bool
         ensures { (result ≡ fits_header d.old at) × (d.new ≡ with_header d.old at self) }
     {

@@ -6,3 +6,4 @@ pub mod Bytes
 pub mod Indices
 pub mod Answers
 pub mod Found
+pub mod Sums

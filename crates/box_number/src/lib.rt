@@ -67,7 +67,7 @@ pub fn opj_read_bytes(s: &[u8], at: usize, nb: usize) -> u32
     }
 }
 
-// The low nb bytes of value, at most 4, to a place of d; whether they had room there. The list and the place are two parameters, as in the crate; write_boxes has a struct for both.
+// The low nb bytes of value, at most 4, to a place of d; whether they had room there. The list and the place are two parameters and no struct, since a clause says what d is before and after as d.old and d.new; write_boxes has a struct for both.
 pub fn opj_write_bytes(d: &mut [u8], at: usize, value: u32, nb: usize) -> bool
     ensures { (result ≡ fits d.old at nb) × (d.new ≡ written d.old at nb value) }
 {

@@ -1,4 +1,4 @@
-// The entries for callers from C and Rust: plain lists and numbers. The crate `cuzhantir_c` exports them to C. Each entry answers 0 or document 01's number; 30 where the list for its numbers is too short, and then it does nothing.
+// The entries for callers from C and Rust: plain lists and numbers, in the parameters that C has. The crate `cuzhantir_c` exports them to C. Each entry answers 0 or document 01's number; 30 where the list for its numbers is too short, and then it does nothing.
 #![tactic(auto)]
 
 ghost use Rattle.std.specs.Prelude.{◌≡◌, length};

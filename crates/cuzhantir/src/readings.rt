@@ -79,7 +79,7 @@ fn record_of(xs: &[u64]) -> Jp2
     m
 }
 
-// Finishes a picture with the numbers of its file's reading. A refusal of reading is answered as it is. The promise includes demand 3, where the numbers are those of that reading.
+// Finishes a picture with the numbers of its file's reading. A refusal of reading is answered as it is. The promise includes demand 3, where the numbers are those of that reading. The parameters are those of the entry for C, but for the settings.
 pub fn finish_reading(
     file: &[u8],
     reading: &[u64],

@@ -31,12 +31,17 @@ impl fmt::Display for Failure {
     }
 }
 
+// What is printed of a reason, of 512 bytes at most, and how many bytes that is.
+fn printed(reason: impl fmt::Display + Drop) -> ([u8; 512], usize) {
+    let mut said = Cursor::new([0u8; 512]);
+    let _ = write!(said, "{reason}");
+    let n = said.position() as usize;
+    (said.into_inner(), n)
+}
+
 // The system's text, of 256 bytes at most, without its number. With the number it has room.
 fn reason<W: fmt::Write>(e: &io::Error, f: &mut fmt::Formatter<W>) -> fmt::Result {
-    let mut said = Cursor::new([0u8; 512]);
-    let _ = write!(said, "{e}");
-    let n = said.position() as usize;
-    let bytes = said.into_inner();
+    let (bytes, n) = printed(e);
     let Ok(words) = str::from_utf8(box_number::part(&bytes, 0, n)) else {
         return Ok(());
     };
@@ -69,10 +74,7 @@ fn read<'a>(file: &mut impl Read, room: &'a mut [u8]) -> Result<&'a [u8], Failur
 
 // One line in one write. The name, of 4096 bytes at most, has room in the list even where each byte takes four.
 pub(crate) fn complain(err: &impl Print, name: &[u8], reason: impl fmt::Display + Drop) {
-    let mut said = Cursor::new([0u8; 512]);
-    let _ = write!(said, "{reason}\n");
-    let n = said.position() as usize;
-    let bytes = said.into_inner();
+    let (bytes, n) = printed(format_args!("{reason}\n"));
     let mut d = [0u8; 65536];
     let at = text::text(&mut d, 0, b"jp2info: ");
     let at = quote::quote(&mut d, at, false, name);

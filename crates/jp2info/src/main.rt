@@ -2,8 +2,6 @@
 // A file that cannot be read is named on standard error, and the files after it are still read.
 #![tactic(auto)]
 
-ghost use Rattle.std.specs.Prelude.{◌≡◌, length};
-
 mod items;
 mod lists;
 mod load;
@@ -18,7 +16,7 @@ use say::Report;
 use std::env::{Env, FillError};
 use std::rt::Files;
 
-// Most bytes of a file. They lie on the stack, which usually has 8 MiB, of which the arguments may take 2.
+// Most bytes of a file. They lie on the stack, since nothing is allocated; it usually has 8 MiB, of which the arguments may take 2. The number is part of what is printed of a larger file.
 const ROOM: usize = 5242880;
 
 fn main(rt: HostRuntime) {
@@ -27,7 +25,7 @@ fn main(rt: HostRuntime) {
         usage::usage(&rt.stderr());
         return;
     }
-    let mut room = room();
+    let mut room = text::input::room::<u8, ROOM>(0);
     let mut run = Run {
         rt: &rt,
         err: rt.stderr(),
@@ -37,13 +35,6 @@ fn main(rt: HostRuntime) {
     for i in 1..count {
         run.word(i);
     }
-}
-
-// A function of its own: in main the proof would write the list out.
-fn room() -> [u8; ROOM]
-    ensures { ROOM ≡ length result }
-{
-    [0; ROOM]
 }
 
 // How many arguments there are, the program's own name among them.
@@ -93,7 +84,7 @@ impl<R: Env + Files + Print, E: Print> Run<'_, R, E> {
     }
 }
 
-// Where output no longer arrives, this is where it is noticed.
+// Where output no longer arrives, this is where it is noticed. No method: the file is a part of the room that a `Run` lends.
 fn show(rt: &impl Print, err: &impl Print, json: bool, name: &[u8], file: &[u8]) {
     if file.is_empty() {
         complain(err, name, ": empty file");

@@ -9,6 +9,7 @@ use text::text;
 // Characters of 2 or more bytes and printing ASCII come as they are, any other byte as \x1b for people and as \u001b in JSON.
 // A backslash, and in JSON a quotation mark, gets a backslash before it.
 // To a list and a place in it, as in the crate text; a Display would have to hand out text, and s is bytes.
+// A loop over what is left: a character has one byte or more, so there is no index to count. `json` is handed on, since the two forms differ in the quotation mark and in the letters before a number alone.
 #[tactic(auto, using(crate::proofs::Quotes::together_fits, crate::proofs::Quotes::rest_less, crate::proofs::Quotes::going_start, crate::proofs::Quotes::going_turn))]
 pub fn quote(d: &mut [u8], at: usize, json: bool, s: &[u8]) -> usize
     ensures { (result ≡ after d.old at (quoted json s.now)) × (d.new ≡ put d.old at (quoted json s.now)) }

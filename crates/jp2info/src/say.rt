@@ -12,7 +12,7 @@ pub(crate) struct Report<'a, P> {
 }
 
 impl<P: Print> Report<'_, P> {
-    // A piece, and whether it arrived.
+    // A piece, and whether it arrived. Both forms are handed in, so that they stand side by side where they are made (docs/DECISIONS.md, 74).
     pub(crate) fn write(
         &self,
         people: impl Display + Drop,
@@ -36,7 +36,7 @@ impl<P: Print> Report<'_, P> {
         let _ = self.rt.write_all(box_number::part(&d, 0, n));
     }
 
-    // The values of a palette's row: 255 at most, of ten digits at most.
+    // The values of a palette's row: 255 at most, of ten digits at most. This and join stay two: each calls another function of `text`, with other lists.
     pub(crate) fn row(&self, depths: &[u8], c: &[u8]) {
         let mut d = [0u8; 4096];
         let n = text::row(&mut d, 0, &[self.between()], depths, c);

@@ -15,14 +15,13 @@ const MOST_ENTRIES: usize = 1024;
 const MOST_COLUMNS: usize = 255;
 
 // Whether the plane of component c has samples that do not lie in the list.
+#[tactic(auto, unfolding(picture_rules::specs::Image::size, box_number::specs::Table::table))]
 fn plane_outside(lent: &Lent<'_>, c: u32) -> bool
     ensures { result ≡ holds (plane_outside lent.now (length lent.now.samples) c) }
 {
     let first = lent.component(c, read_record::DATA);
-    let high = lent.component(c, read_record::H) as usize;
-    let wide = lent.component(c, read_record::W) as usize;
     first != read_record::NO_DATA
-        && box_number::lies_outside(lent.samples.len(), first as usize, high * wide)
+        && box_number::lies_outside(lent.samples.len(), first as usize, lent.size(c) as usize)
 }
 
 // Whether there are too many components or samples, or a record or plane lies outside its list.
@@ -41,14 +40,15 @@ fn palette_outside(f: &[u8], p: Palette) -> bool
 {
     let entries = p.entries as usize;
     let columns = p.columns as usize;
-    if columns == 0 {
-        return false;
-    }
-    if entries == 0 || MOST_ENTRIES < entries || MOST_COLUMNS < columns {
-        return true;
-    }
-    let row = read_palette::row_bytes(box_number::part(f, p.place, f.len()), 0, columns as u8);
-    box_number::lies_outside(f.len(), p.place, columns + entries * row)
+    columns != 0
+        && (entries == 0
+            || MOST_ENTRIES < entries
+            || MOST_COLUMNS < columns
+            || {
+                let s = box_number::part(f, p.place, f.len());
+                let row = read_palette::row_bytes(s, 0, columns as u8);
+                box_number::lies_outside(f.len(), p.place, columns + entries * row)
+            })
 }
 
 // Whether a mapping list is one that no reader gives for a palette of this many columns, or does not lie in f.

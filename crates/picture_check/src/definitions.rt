@@ -50,7 +50,7 @@ fn mark_defined(f: &[u8], l: Span, seen: &mut [bool])
     }
 }
 
-// The least channel that number 26 counts: in edition 1 channel 0 may go undefined.
+// The least channel that number 26 counts: in edition 1 channel 0 may go undefined. The edition is a number here too, as in `Settings`.
 #[tactic(auto, unfolding(picture_rules::specs::Edition::least_counted, box_number::specs::Table::table))]
 fn least_counted(edition2: u32) -> u32
     ensures { result ≡ least_counted edition2 }

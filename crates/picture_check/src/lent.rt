@@ -5,6 +5,7 @@ ghost use Rattle.picture_rules.specs.Image.{component, size};
 use std::marker::Model;
 
 // The numbers of the components, thirteen each in one list, how many components there are, and the list that has the samples of all of them.
+// `count` is what the caller says, and stays beside the list: whether the list has as many is a rule (29).
 #[derive(Drop)]
 pub struct Lent<'a> {
     pub comps: &'a [u32],

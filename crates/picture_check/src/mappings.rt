@@ -25,14 +25,12 @@ fn is_mismapped(f: &[u8], l: Span, n: u32, c: usize) -> bool
     let at = l.place + MAPPING_BYTES * c;
     let component = u32::from(box_number::read_u16(f, at));
     let pcol = usize::from(box_number::read_u8(f, at + 3));
-    if n <= component {
-        return true;
-    }
-    match box_number::read_u8(f, at + 2) {
-        DIRECT => pcol != 0,
-        PALETTE => pcol != c,
-        _ => true,
-    }
+    n <= component
+        || match box_number::read_u8(f, at + 2) {
+            DIRECT => pcol != 0,
+            PALETTE => pcol != c,
+            _ => true,
+        }
 }
 
 // The first mapping that fails, with n components.

@@ -19,7 +19,7 @@ use Rattle.picture_rules.specs.Samples.{value_of, channel_samples, packed, start
 use Rattle.picture_rules.specs.Finish.{expanded}
 use Rattle.box_number.proofs.Indices.{decide}
 use Rattle.picture_rules.proofs.Packs.{Held, size-some, start-more, packed-length}
-use Rattle.picture_rules.proofs.Mappings.{kept, plain_type, component-inside}
+use Rattle.picture_rules.proofs.Mappings.{kept, plain_type, component-below, component-inside}
 use Rattle.box_number.specs.Number.{number, placed}
 use Rattle.picture_planes.specs.declared.Column.{Column}
 use Rattle.picture_planes.specs.Column.{no_column}
@@ -79,6 +79,7 @@ module _ (f : List ℕ) (m : Jp2) (i : Image) where
       unfolding start_of
       packable room c at d l e h =
           record {
+            numbers = omega (arith, component-below f m i (kept f m tested.file) tested.mapping c (rw (← all) l), tested.lists.1.0);
             column = column-there c d;
             inside = λ some. omega (arith, within c l some, size-some i (component_of f m c) some);
             fits = omega (arith, start-more f m i (suc c) n l);

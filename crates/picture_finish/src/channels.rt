@@ -1,8 +1,8 @@
 // The channels of a picture (`opj_jp2_apply_pclr` of jp2.rs): their records and their samples, packed into the destinations one after the other.
-ghost use Rattle.std.specs.Prelude.{◌+◌, ◌*◌, ◌≤◌, ◌≡◌, length};
+ghost use Rattle.std.specs.Prelude.{◌+◌, ◌*◌, ◌≤◌, ◌<◌, ◌≡◌, length};
 ghost use Rattle.box_number.specs.Number.{number, placed};
 ghost use Rattle.read_record.specs.Component.{numbers_each};
-ghost use Rattle.picture_rules.specs.Image.{most_samples, size};
+ghost use Rattle.picture_rules.specs.Image.{component, most_samples, size};
 ghost use Rattle.picture_rules.specs.Channels.{component_of};
 ghost use Rattle.picture_rules.specs.Samples.{start_of};
 ghost use Rattle.picture_rules.specs.Finish.{expanded_from};
@@ -36,20 +36,25 @@ impl Passed<'_> {
     fn is_looked_up(&self, c: u32) -> bool
         ensures { result ≡ looked_up self.now.f.now self.now.m.lists.cmap self.now.checked.corrected c }
     {
-        if self.checked.corrected {
-            return true;
-        }
         let l = self.m.lists.cmap;
-        if l.count == 0 {
-            return false;
-        }
         let list = box_number::part(self.f, l.place, self.f.len());
-        box_number::read_u8(list, MAPPING_BYTES * c as usize + 2) == PALETTE
+        self.checked.corrected
+            || l.count != 0 && box_number::read_u8(list, MAPPING_BYTES * c as usize + 2) == PALETTE
+    }
+
+    // Number k of component r, whose record lies in its list. By its index: `Lent::component` tests for each number whether it is there, which takes a fifth of the instructions for a channel without samples.
+    fn component_number(&self, r: u32, k: u32) -> u32
+        requires { numbers_each * r + k < length self.now.lent.now.components }
+        ensures { result ≡ component self.now.lent.now r k }
+    {
+        let lent = self.lent;
+        lent.comps[read_record::COMPONENT_NUMBERS * r as usize + k as usize]
     }
 
     // Number k of the record of a channel whose component is r, whose column has the depth and sign b where there are mappings, and whose samples start at a place.
     #[tactic(auto, unfolding(box_number::specs::Table::table))]
     fn expanded_number(&self, b: u8, r: u32, start: u32, k: u32) -> u32
+        requires { (numbers_each * r + numbers_each ≤ length self.now.lent.now.components) × (k < numbers_each) }
         ensures { result ≡ expanded_from b self.now.m.lists.cmap.count self.now.lent.now r start k }
     {
         let mapped = self.m.lists.cmap.count != 0;
@@ -57,14 +62,15 @@ impl Passed<'_> {
             read_record::PREC if mapped => u32::from(b) % SIGN_BIT + 1,
             read_record::SGND if mapped => u32::from(b) / SIGN_BIT,
             read_record::DATA
-                if self.lent.component(r, read_record::DATA) != read_record::NO_DATA => start,
-            _ => self.lent.component(r, k),
+                if self.component_number(r, read_record::DATA) != read_record::NO_DATA => start,
+            _ => self.component_number(r, k),
         }
     }
 
     // Puts the record of channel c to its place.
     fn pack_record(&self, b: u8, c: u32, r: u32, start: u32, records: &mut [u32])
-        requires { numbers_each * c + numbers_each ≤ length records.old }
+        requires room { numbers_each * c + numbers_each ≤ length records.old }
+        requires inside { numbers_each * r + numbers_each ≤ length self.now.lent.now.components }
         ensures { records.new ≡ placed records.old (numbers_each * c) (record_at b self.now.m.lists.cmap.count self.now.lent.now r start) }
     {
         let at = read_record::COMPONENT_NUMBERS * c as usize;
@@ -74,6 +80,7 @@ impl Passed<'_> {
     }
 
     // Puts the samples of a channel to a place: those of its component r, copied or looked up in the column k of s. Answers where they end.
+    // The list and the place are two parameters, here and in pack_channel: the clauses are on the list, and the place is a number of its own, where the samples start.
     fn pack_samples(
         &self,
         s: &[u8],

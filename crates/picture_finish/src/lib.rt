@@ -108,7 +108,7 @@ impl Passed<'_> {
 }
 
 // Finishes the picture of the file f with the record m from reading it: the components and their samples are lent, and so are the destinations for the records of the
-// finished planes and for their samples. They are parameters of their own here and in read_picture, as the entries for C pass them. With any ignore flag but 0 in the settings s the components are copied as they are; the edition decides about marks, and whether channel 0 has to be defined.
+// finished planes and for their samples. They are parameters of their own here and in read_picture, as the entries for C pass them: the clauses are on `handed` of all of them, and a struct would be taken apart in each. With any ignore flag but 0 in the settings s the components are copied as they are; the edition decides about marks, and whether channel 0 has to be defined.
 pub fn opj_jp2_apply_color_postprocessing(
     f: &[u8],
     m: Jp2,

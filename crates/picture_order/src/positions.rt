@@ -23,7 +23,7 @@ pub(crate) struct Ask {
     pub mark: u16,
 }
 
-// n channels, each at a position of its own, in two lists of N places.
+// n channels, each at a position of its own, in two lists of N places. n stands beside lists of a fixed length, since the core has no heap.
 #[derive(Drop)]
 pub(crate) struct Positions<const N: usize> {
     pub n: usize,
@@ -32,7 +32,7 @@ pub(crate) struct Positions<const N: usize> {
     ghost positioned: { Positioned n positions channels } by { Prim.hlevel props },
 }
 
-// A colour definition moves its channel's record from position p to position q: the position whose record then takes the mark. In edition 1 it is the old one, in edition 2 that of the channel's own record.
+// A colour definition moves its channel's record from position p to position q: the position whose record then takes the mark. The edition is a number here too, as in `Definitions`. In edition 1 it is the old one, in edition 2 that of the channel's own record.
 fn marked_position(edition2: u32, p: usize, q: usize) -> usize
     ensures { result ≡ marked_position edition2 p q }
 {

@@ -66,7 +66,7 @@ module _ (m : Jp2) where
 
 -- every channel's component exists, and its samples lie in the list
 module _ (f : List ℕ) (m : Jp2) (i : Image) (kept : Kept m) (mapping : (c : ℕ) → c < m.lists.cmap.count → Says false (mismapped f m.lists.cmap i.count c)) (c : ℕ) (l : c < channels m i.count) where
-  component-below : component_of f m c < i.count
+  pub component-below : component_of f m c < i.count
   component-below =
       channel-cases m i.count c kept l
       (λ t b. omega (arith, mapped-component m f c t, (mapping c b).0))

@@ -72,9 +72,7 @@ pub fn opj_jp2_read_cdef(c: &[u8], at: At, j: Jp2) -> Result<Jp2, Refusal<u32>>
 pub fn definitions_outside(f: &[u8], l: Span) -> bool
     ensures { result ≡ holds (definitions_outside f.now l) }
 {
-    if l.count == 0 {
-        return false;
-    }
-    MOST_DEFINITIONS < l.count
-        || box_number::lies_outside(f.len(), l.place, DEFINITION_BYTES * l.count)
+    l.count != 0
+        && (MOST_DEFINITIONS < l.count
+            || box_number::lies_outside(f.len(), l.place, DEFINITION_BYTES * l.count))
 }

@@ -5,7 +5,7 @@ ghost use Rattle.std.specs.Prelude.{◌+◌, ◌≤◌, ◌≡◌, length};
 ghost use Rattle.box_number.specs.Table.{holds};
 ghost use Rattle.box_kind.specs.declared.Jp2BoxType.TheVariants.{JP2C};
 ghost use Rattle.box_header.specs.Box.{largest};
-ghost use Rattle.box_refusal.specs.Told.{told};
+ghost use Rattle.read_record.specs.Lent.{leaves};
 ghost use Rattle.read_record.specs.Record.{blank};
 ghost use Rattle.read_record.specs.State.{with_unknown};
 ghost use Rattle.read_jp2h.specs.Split.{Box, first_box};
@@ -57,18 +57,16 @@ fn read_stream(at: At, k: Jp2) -> Result<Reading, Refusal<u32>>
     })
 }
 
-// The record once a box was skipped.
-fn skip(k: Jp2) -> Jp2
-    ensures { result ≡ with_unknown k }
+// Skips a box: the record's state alone changes.
+fn skip(k: &mut Jp2)
+    ensures { k.new ≡ with_unknown k.old }
 {
-    let mut m = k;
-    m.status.state = read_record::unknown(m.status.state);
-    m
+    k.status.state = read_record::unknown(k.status.state);
 }
 
 // Skips a box that is not read, once signature and file type were read.
-fn read_other(place: u32, k: Jp2) -> Result<Jp2, Refusal<u32>>
-    ensures { (b : Box) → b.place ≡ place → told result ≡ other b k }
+fn read_other(place: u32, k: &mut Jp2) -> Result<(), Refusal<u32>>
+    ensures { (b : Box) → b.place ≡ place → leaves result k.new ≡ other b k.old }
 {
     if !k.status.has(Bit::Signature) {
         return Err(Refusal {
@@ -82,7 +80,8 @@ fn read_other(place: u32, k: Jp2) -> Result<Jp2, Refusal<u32>>
             place,
         });
     }
-    Ok(skip(k))
+    skip(k);
+    Ok(())
 }
 
 // Whether boxes of this kind are read, in the file or in jp2h.
@@ -100,32 +99,35 @@ fn is_early(ty: Jp2BoxType, status: Status) -> bool
 }
 
 // jp2h, or a box of it outside jp2h. Such a box is skipped before the header bit is set.
-fn read_header(ty: Jp2BoxType, c: &[u8], at: At, k: Jp2) -> Result<Jp2, Refusal<u32>>
-    ensures { told result ≡ header_or_skipped ty at.place at.start c.now k }
+fn read_header(ty: Jp2BoxType, c: &[u8], at: At, k: &mut Jp2) -> Result<(), Refusal<u32>>
+    ensures { leaves result k.new ≡ header_or_skipped ty at.place at.start c.now k.old }
 {
     if is_early(ty, k.status) {
-        return Ok(skip(k));
+        skip(k);
+        return Ok(());
     }
-    read_jp2h::read_header_box(ty, c, at, k)
+    *k = read_jp2h::read_header_box(ty, c, at, *k)?;
+    Ok(())
 }
 
 // Reads the content of a box of the file by the reader of its kind. jp2h and the boxes that belong into it have one arm: read_jp2h says why.
-fn read_outer(ty: Jp2BoxType, c: &[u8], at: At, k: Jp2) -> Result<Jp2, Refusal<u32>>
+fn read_outer(ty: Jp2BoxType, c: &[u8], at: At, k: &mut Jp2) -> Result<(), Refusal<u32>>
     requires { at.start + length c.now ≤ largest }
-    ensures { told result ≡ outer (box_with ty at.place at.start c.now) k }
+    ensures { leaves result k.new ≡ outer (box_with ty at.place at.start c.now) k.old }
 {
     match ty {
-        Jp2BoxType::JP => read_signature::opj_jp2_read_jp(c, at, k),
-        Jp2BoxType::FTYP => read_signature::opj_jp2_read_ftyp(c, at, k),
+        Jp2BoxType::JP => *k = read_signature::opj_jp2_read_jp(c, at, *k)?,
+        Jp2BoxType::FTYP => *k = read_signature::opj_jp2_read_ftyp(c, at, *k)?,
         Jp2BoxType::JP2H
         | Jp2BoxType::IHDR
         | Jp2BoxType::BPCC
         | Jp2BoxType::COLR
         | Jp2BoxType::PCLR
         | Jp2BoxType::CMAP
-        | Jp2BoxType::CDEF => read_header(ty, c, at, k),
-        _ => read_other(at.place, k),
+        | Jp2BoxType::CDEF => read_header(ty, c, at, k)?,
+        _ => read_other(at.place, k)?,
     }
+    Ok(())
 }
 
 // Ends the reading at a box that reaches past the end.
@@ -138,16 +140,18 @@ fn read_past(ty: Jp2BoxType, place: u32, k: Jp2) -> Result<Reading, Refusal<u32>
             place,
         });
     }
+    let mut m = k;
+    read_other(place, &mut m)?;
     Ok(Reading {
         end: FileEnd::Ended,
-        jp2: read_other(place, k)?,
+        jp2: m,
     })
 }
 
 // Reads a box that lies in c, from its first byte on, with the header that was found there.
-fn read_whole(c: &[u8], place: u32, h: Jp2BoxHeader, k: Jp2) -> Result<Jp2, Refusal<u32>>
+fn read_whole(c: &[u8], place: u32, h: Jp2BoxHeader, k: &mut Jp2) -> Result<(), Refusal<u32>>
     requires { Heads place c.now h }
-    ensures { told result ≡ outer (first_box place c.now) k }
+    ensures { leaves result k.new ≡ outer (first_box place c.now) k.old }
 {
     let content = &c[h.header_length as usize..(h.header_length + h.content_length()) as usize];
     let at = At {
@@ -157,7 +161,7 @@ fn read_whole(c: &[u8], place: u32, h: Jp2BoxHeader, k: Jp2) -> Result<Jp2, Refu
     read_outer(h.ty, content, at, k)
 }
 
-// A file, read from a record on. The promise has the result, and request R-1: where the file was broken off, the result agrees with the whole file. `find_box` has no record, so that a turn copies it no more often than its reader does.
+// A file, read from a record on. The promise has the result, and request R-1: where the file was broken off, the result agrees with the whole file. The steps of a turn alter the record in place (docs/DECISIONS.md, 69).
 pub fn opj_jp2_read_header_procedure(s: &[u8], j: Jp2) -> Result<Reading, Refusal<u32>>
     ensures { FileRead s.now j (walked result) }
 {
@@ -168,6 +172,7 @@ pub fn opj_jp2_read_header_procedure(s: &[u8], j: Jp2) -> Result<Reading, Refusa
         });
     }
     let mut k = j;
+    // no index: each turn takes a box off the front of what is left
     let mut rest = s;
     let mut at = 0;
     while let Some(found) = find_box(rest) {
@@ -184,7 +189,7 @@ pub fn opj_jp2_read_header_procedure(s: &[u8], j: Jp2) -> Result<Reading, Refusa
             }
             Found::Past(h) => return read_past(h.ty, at, k),
             Found::Whole(h) => {
-                k = read_whole(rest, at, h, k)?;
+                read_whole(rest, at, h, &mut k)?;
                 rest = &rest[h.next(0)..];
                 at = h.next(at) as u32;
             }

@@ -7,6 +7,7 @@ ghost use Rattle.box_refusal.specs.Told.{told};
 ghost use Rattle.box_kind.specs.Kind.{◌is◌};
 ghost use Rattle.box_kind.specs.declared.Jp2BoxType.TheVariants.{IHDR, JP2H};
 ghost use Rattle.box_header.specs.Box.{largest};
+ghost use Rattle.read_record.specs.Lent.{leaves};
 ghost use Rattle.read_jp2h.specs.Child.{reader};
 ghost use Rattle.read_jp2h.specs.Jp2h.{jp2h_alone};
 ghost use Rattle.read_jp2h.specs.HeaderBox.{header_box};
@@ -17,23 +18,20 @@ use box_kind::Jp2BoxType;
 use box_refusal::{Cause, Refusal};
 use read_record::{At, Bit, Jp2, Status};
 
-// Reads the content of a box inside jp2h by the reader of its kind. A box of another kind is skipped.
-fn read_content(ty: Jp2BoxType, c: &[u8], at: At, j: Jp2) -> Result<Jp2, Refusal<u32>>
-    ensures { told result ≡ reader ty at.place at.start c.now j }
+// Reads the content of a box inside jp2h by the reader of its kind. A box of another kind is skipped. The record is altered in place, here and in read_item (docs/DECISIONS.md, 69).
+fn read_content(ty: Jp2BoxType, c: &[u8], at: At, k: &mut Jp2) -> Result<(), Refusal<u32>>
+    ensures { leaves result k.new ≡ reader ty at.place at.start c.now k.old }
 {
     match ty {
-        Jp2BoxType::IHDR => read_image::opj_jp2_read_ihdr(c, at, j),
-        Jp2BoxType::BPCC => read_image::opj_jp2_read_bpcc(c, at, j),
-        Jp2BoxType::COLR => read_colour::opj_jp2_read_colr(c, at, j),
-        Jp2BoxType::PCLR => read_palette::opj_jp2_read_pclr(c, at, j),
-        Jp2BoxType::CMAP => read_channels::opj_jp2_read_cmap(c, at, j),
-        Jp2BoxType::CDEF => read_channels::opj_jp2_read_cdef(c, at, j),
-        _ => {
-            let mut k = j;
-            k.status.imgstate = read_record::unknown(j.status.imgstate);
-            Ok(k)
-        }
+        Jp2BoxType::IHDR => *k = read_image::opj_jp2_read_ihdr(c, at, *k)?,
+        Jp2BoxType::BPCC => *k = read_image::opj_jp2_read_bpcc(c, at, *k)?,
+        Jp2BoxType::COLR => *k = read_colour::opj_jp2_read_colr(c, at, *k)?,
+        Jp2BoxType::PCLR => *k = read_palette::opj_jp2_read_pclr(c, at, *k)?,
+        Jp2BoxType::CMAP => *k = read_channels::opj_jp2_read_cmap(c, at, *k)?,
+        Jp2BoxType::CDEF => *k = read_channels::opj_jp2_read_cdef(c, at, *k)?,
+        _ => k.status.imgstate = read_record::unknown(k.status.imgstate),
     }
+    Ok(())
 }
 
 // A box to read: its place in the file, and its header. A box outside jp2h is read from its content alone, and has a header of no bytes here.
@@ -90,9 +88,9 @@ fn find_next(
 }
 
 // Reads the box, which lies in the bytes c that are left.
-fn read_item(b: Item, c: &[u8], at: u32, k: Jp2) -> Result<Jp2, Refusal<u32>>
+fn read_item(b: Item, c: &[u8], at: u32, k: &mut Jp2) -> Result<(), Refusal<u32>>
     requires { (b.header.header_length ≤ b.header.length) × (b.header.length ≤ length c.now) × (at + b.header.header_length ≤ largest) }
-    ensures { told result ≡ read_item b at c.now k }
+    ensures { leaves result k.new ≡ read_item b at c.now k.old }
 {
     let h = b.header;
     let content = &c[h.header_length as usize..(h.header_length + h.content_length()) as usize];
@@ -154,7 +152,7 @@ fn is_alone(ty: Jp2BoxType) -> bool
 }
 
 // Reads jp2h, or a box of another kind outside jp2h as a list of one. One loop serves both, so that the readers are chosen and called at one place.
-// A second such call would copy the record at each box, which takes longer than reading a small box (docs/DECISIONS.md, 69).
+// With a second such call the compiler would keep the readers out of the loop, and copy the record for each box; to copy it takes longer than to read a small box (docs/DECISIONS.md, 69).
 pub fn read_header_box(ty: Jp2BoxType, c: &[u8], at: At, j: Jp2) -> Result<Jp2, Refusal<u32>>
     ensures { told result ≡ header_box ty at.place at.start c.now j }
 {
@@ -162,13 +160,14 @@ pub fn read_header_box(ty: Jp2BoxType, c: &[u8], at: At, j: Jp2) -> Result<Jp2, 
     admit(alone, c, at, j.status)?;
     let mut k = j;
     k.status = opened(alone, j.status);
-    // whether a box that is read alone is still to be read
+    // No index: each turn takes a box off the front of what is left.
+    // `lone` says whether a box that is read alone is still to be read.
     let mut lone = alone;
     let mut rest = c;
     let mut place = at.start;
     let mut lacks = !alone;
     while let Some(b) = find_next(lone, ty, at.place, rest, place)? {
-        k = read_item(b, rest, place, k)?;
+        read_item(b, rest, place, &mut k)?;
         let size = b.header.next(0);
         rest = &rest[size..];
         place = b.header.next(place) as u32;

@@ -1,42 +1,19 @@
--- One answer and one record: with the record, each answer is one of a reader by value, of which all is told.
+-- One answer and one record of a file: with the record, each answer is one of the walk by value, of which all is told.
 -- Assumes nothing.
-use Rattle.std.proofs.Common.{◌≡◌, ℕ, refl, sym, ap, ◌∙◌, arith}
-use Rattle.std.specs.Prelude.{⊤, OnErr}
+use Rattle.std.proofs.Common.{◌≡◌, ℕ, refl, sym, ◌∙◌}
 use Rattle.std.specs.Prelude as std
 use Rattle.box_refusal.specs.declared.Refusal.{Refusal}
-use Rattle.box_refusal.specs.Told.{told}
-use Rattle.box_refusal.proofs.Numbers.{told-once}
 use Rattle.read_record.specs.declared.Jp2.{Jp2}
+use Rattle.read_record.proofs.Exact.{by_value, apart}
 use Rattle.read_rules.specs.declared.FileEnd.{FileEnd}
 use Rattle.read_rules.specs.File.{walked}
 use Rattle.read_rules.proofs.Once.{walked-once}
-use Rattle.read_lent.specs.Lent.{leaves}
 use Rattle.read_lent.specs.LentFile.{leaves_file}
-use Rattle.read_lent.specs.Exact.{OneOutcome, OneReading}
-
--- an answer and the record at exit, as the reader by value answers
-abbrev by_value : {U V : Type 0} → (U → Jp2 → V) → std.Result U (Refusal ℕ) → Jp2 → std.Result V (Refusal ℕ)
-by_value pack (std.Ok u) k = std.Ok (pack u k)
-by_value pack (std.Err r) k = std.Err r
-
--- from it come the answer and the record at exit; where it refuses, the record is the one at entry
-module _ {U V : Type 0} (pack : U → Jp2 → V) (first : V → U) (second : V → Jp2) (one : (u : U) (k : Jp2) → first (pack u k) ≡ u) (two : (u : U) (k : Jp2) → second (pack u k) ≡ k) where
-  apart : (a b : std.Result U (Refusal ℕ)) (i j k : Jp2) → by_value pack a j ≡ by_value pack b k → OnErr a (j ≡ i) → OnErr b (k ≡ i) → (a ≡ b) × (j ≡ k)
-  apart (std.Ok u) (std.Ok v) i j k e p q = let d : pack u j ≡ pack v k = cc in (ap (λ x. std.Ok x) (sym (one u j) ∙ ap first d ∙ one v k), sym (two u j) ∙ ap second d ∙ two v k)
-  apart (std.Ok u) (std.Err s) i j k e p q = let z : ◌≡◌ {A = ℕ} 0 1 = cc in absurd (omega arith)
-  apart (std.Err r) (std.Ok v) i j k e p q = let z : ◌≡◌ {A = ℕ} 0 1 = cc in absurd (omega arith)
-  apart (std.Err r) (std.Err s) i j k e p q = let d : r ≡ s = cc in (ap (λ x. std.Err x) d, p ∙ sym q)
-
-left_is : (a : std.Result ⊤ (Refusal ℕ)) (k : Jp2) → leaves a k ≡ told (by_value (λ u j. j) a k)
-left_is (std.Ok u) k = refl
-left_is (std.Err r) k = refl
+use Rattle.read_lent.specs.Exact.{OneReading}
 
 file-left-is : (a : std.Result FileEnd (Refusal ℕ)) (k : Jp2) → leaves_file a k ≡ walked (by_value (λ end j. record { end = end; jp2 = j }) a k)
 file-left-is (std.Ok end) k = refl
 file-left-is (std.Err r) k = refl
-
-pub one-outcome : OneOutcome
-one-outcome a b i j k d (e, p) (f, q) = apart (λ u j. j) (λ _. tt) (λ j. j) (λ u j. refl) (λ u j. refl) a b i j k (told-once _ _ (sym (left_is a j) ∙ e ∙ sym f ∙ left_is b k)) p q
 
 pub one-reading : OneReading
 one-reading a b j k s i e p f q = apart (λ end j. record { end = end; jp2 = j }) (λ r. r.end) (λ r. r.jp2) (λ end j. refl) (λ end j. refl) a b i j k (walked-once _ _ (sym (file-left-is a j) ∙ e.exact ∙ sym f.exact ∙ file-left-is b k)) p q

@@ -4,6 +4,7 @@
 
 ghost use Rattle.std.specs.Prelude.{◌≡◌, OnErr};
 ghost use Rattle.box_refusal.specs.Told.{told};
+ghost use Rattle.read_record.specs.Lent.{Lent};
 ghost use Rattle.read_signature.specs.Signature.{signature};
 ghost use Rattle.read_signature.specs.FileType.{file_type};
 ghost use Rattle.read_image.specs.Ihdr.{ihdr};
@@ -14,7 +15,6 @@ ghost use Rattle.read_channels.specs.Cmap.{cmap};
 ghost use Rattle.read_channels.specs.Cdef.{cdef};
 ghost use Rattle.read_jp2h.specs.Jp2h.{jp2h_alone};
 ghost use Rattle.read_rules.specs.CutTransfers.{FileRead};
-ghost use Rattle.read_lent.specs.Lent.{Lent};
 ghost use Rattle.read_lent.specs.LentFile.{leaves_file};
 
 use box_refusal::Refusal;

@@ -28,13 +28,10 @@ pub fn entry_bytes(b: u8) -> usize
 pub fn row_bytes(s: &[u8], at: u32, n: u8) -> usize
     ensures { result ≡ row_bytes s.now at n }
 {
-    // a loop: map and sum leave two goals that are longer than this
     let first = at as usize;
-    let mut sum: usize = 0;
-    for i in 0..n as usize {
-        sum = sum + entry_bytes(box_number::read_u8(s, first + i));
-    }
-    sum
+    (0..n as usize)
+        .map(|i| entry_bytes(box_number::read_u8(s, first + i)))
+        .sum()
 }
 
 pub fn opj_jp2_read_pclr(c: &[u8], at: At, j: Jp2) -> Result<Jp2, Refusal<u32>>

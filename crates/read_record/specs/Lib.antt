@@ -2,3 +2,4 @@ pub mod Record
 pub mod Answer
 pub mod State
 pub mod Component
+pub mod Lent

@@ -203,7 +203,7 @@ pub const ALPHA: u32 = 12;
 // The most components that a picture can have.
 pub const MOST_COMPONENTS: u32 = 16384;
 
-// How many numbers a component has, and the value of `data` for a component without samples.
+// How many numbers a component has, and the value of `data` for a component without samples: a number, as C has it in its lists.
 pub const COMPONENT_NUMBERS: usize = 13;
 
 pub const NO_DATA: u32 = 4294967295;

@@ -8,15 +8,15 @@ ghost use Rattle.read_signature.specs.Signature.{signature};
 ghost use Rattle.read_signature.specs.FileType.{file_type};
 
 use box_refusal::{Cause, Refusal};
-use read_record::{At, FileType, Jp2, Span};
+use read_record::{At, Bit, FileType, Jp2, Span};
 
 // The content of a signature box.
 const SIGNATURE: u32 = 0x0d0a870a;
 
 // jp2_state after the signature, and after the file type too.
-const SIGNATURE_READ: u32 = 1;
+const SIGNATURE_READ: u32 = Bit::Signature as u32;
 
-const FILE_TYPE_READ: u32 = 3;
+const FILE_TYPE_READ: u32 = SIGNATURE_READ + Bit::FileType as u32;
 
 // Brand and minor version, before the compatibility list; an entry of the list.
 const BRAND_BYTES: usize = 8;

@@ -193,6 +193,7 @@ fn write(rt: &impl Print, length: u32, ty: Jp2BoxType, room: usize, at: usize) {
     }
 }
 
+// The list and the place are those of `write`, which is tried here.
 fn write_in(rt: &impl Print, h: Jp2BoxHeader, d: &mut [u8], at: usize) {
     say(rt, b"write ", &[]);
     header(rt, h);

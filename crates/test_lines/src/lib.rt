@@ -16,7 +16,7 @@ pub fn say(rt: &impl Print, shape: &[u8], numbers: &[usize]) -> usize
     n
 }
 
-// Prints how many bytes s has, and each of them. Answers how many.
+// Prints how many bytes s has, and each of them. Answers how many, counted as they are printed: the length of the list says only how many there are.
 pub fn bytes(rt: &impl Print, s: &[u8]) -> usize
     ensures { result ≡ length s.now }
 {

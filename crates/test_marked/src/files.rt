@@ -1,4 +1,4 @@
-// The boxes of the marked cases, written into a lent list of zeros.
+// The boxes of the marked cases, written into a lent list of zeros. A list and a place are two parameters, as in `opj_write_bytes`.
 ghost use Rattle.std.specs.Prelude.{◌+◌, ◌≡◌};
 ghost use Rattle.test_marked.specs.Private.Boxes.{with_head, with_extended, with_start, with_picture, with_ihdr, with_colr, with_pclr};
 

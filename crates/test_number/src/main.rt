@@ -142,6 +142,7 @@ fn read_bytes(rt: &impl Print, s: &[u8], at: usize, nb: usize) {
     came(rt, b"opj_read_bytes, width # at # of ", &[nb, at], s, n);
 }
 
+// The list and the place are those of `opj_write_bytes`, which is tried here.
 fn write(rt: &impl Print, d: &mut [u8], at: usize, value: u32, nb: usize) {
     let fitted = box_number::opj_write_bytes(d, at, value, nb);
     say(

@@ -18,7 +18,8 @@ pub fn read_full(input: &mut impl Read, d: &mut [u8]) -> usize
 }
 
 // A list of N elements that are all the same, into which input is read. It is made here, under a contract that counts its elements, since a check
-// that sees a long list being made in its reader writes the list out.
+// that sees a long list being made in its reader writes the list out. Inlined: a call has the list on the stack a second time, and the 5 MiB of `jp2info` have room there once.
+#[inline(always)]
 pub fn room<T: Copy, const N: usize>(element: T) -> [T; N]
     ensures long { length result ≡ N }
     ensures same { All (λ x. x ≡ element) result }

@@ -149,6 +149,7 @@ impl Boxes<'_> {
         ]);
     }
 
+    // The lengths of bpcc, colr and cdef stay three functions: each has a test and a sum of its own.
     #[tactic(auto, unfolding(crate::specs::Private::Lengths::bpcc_length, box_number::specs::Table::table))]
     fn bpcc_length(&self) -> u32
         ensures { result ≡ bpcc_length self.now.fields }
@@ -161,13 +162,12 @@ impl Boxes<'_> {
     }
 
     // A byte for each of the components. This and put_definitions are two loops, since what a turn needs of its component and the bytes that it puts are not the same.
-    #[tactic(auto, unfolding(box_number::specs::Table::table))]
     fn put_depths(&self, out: &mut Writer<'_>)
         requires { HasRoom out.old self.now.fields.numcomps }
         ensures { Puts out.old out.new (bpcc_content self.now.comps.now self.now.fields.numcomps) self.now.fields.numcomps }
     {
         for c in 0..self.fields.numcomps {
-            out.put(&[(1, write_setup::component_bits(self.comps, c).unwrap())]);
+            out.put(&[(1, write_setup::component_bits(self.comps, c) as u32)]);
         }
     }
 

@@ -84,10 +84,14 @@ pub wrapping-most : (a b : ℕ) → wrapping a b < 4294967296
 unfolding wrapping
 wrapping-most a b = mod-lt _ (omega arith)
 
+-- the bits and the sign of a component that is not refused are a byte
+pub depth_most : (comps : List ℕ) (c : ℕ) → Says false (ill comps c) → BPCi comps c < 256
+unfolding BPCi
+depth_most comps c well = omega (arith, well)
+
 module _ (r : Request) (fit : Fit r) where
   pub byte-most : (c : ℕ) → c < r.count → BPCi r.components c < 256
-  unfolding BPCi
-  byte-most c l = omega (arith, fit.bits c l)
+  byte-most c l = let b = fit.bits c l in depth_most r.components c (omega arith)
 
   pub bpc-most : (fields_of r).bpc < 256
   unfolding BPC

@@ -1,8 +1,8 @@
 // What is to be written of a picture (`opj_jp2_setup_encoder` of jp2.rs): the fields of all boxes, from its components, corners, colour space and profile.
 #![tactic(auto)]
 
-ghost use Rattle.std.specs.Prelude.{◌≡◌, false, Some, None};
-ghost use Rattle.box_number.specs.Table.{◌≠?◌, otherwise, ◌⇒◌∣◌, table, holds, Says};
+ghost use Rattle.std.specs.Prelude.{◌≡◌, false};
+ghost use Rattle.box_number.specs.Table.{◌≠?◌, holds, Says};
 ghost use Rattle.box_number.specs.Lowest.{some};
 ghost use Rattle.box_refusal.specs.Told.{told};
 ghost use Rattle.write_rules.specs.Request.{asked, alpha_of};
@@ -13,8 +13,10 @@ use box_refusal::{Cause, Refusal};
 use read_record::{ALPHA, COMPONENT_NUMBERS, MOST_COMPONENTS, PREC, SGND};
 use write_rules::{ENUMERATED, Fields, PROFILE, Request, VARIES};
 
-// The most bits of a sample.
+// The most bits of a sample, and the weight of its sign in a byte.
 const MOST_BITS: u32 = 38;
+
+const SIGN_BIT: u64 = 128;
 
 // Enumerated colour spaces.
 const SRGB: u32 = 16;
@@ -45,15 +47,14 @@ fn has_other_bits(comps: &[u32], c: u32) -> bool
     read_record::component(comps, c, PREC) != read_record::component(comps, 0, PREC)
 }
 
-// Bits less 1 of component c, and its sign as the top bit. None where the component is ill.
-#[tactic(auto, unfolding(write_rules::specs::Setup::BPCi, box_number::specs::Table::table))]
-pub fn component_bits(comps: &[u32], c: u32) -> Option<u32>
-    ensures { result ≡ table (ill comps.now c ⇒ None ∣ otherwise (Some (BPCi comps.now c))) }
+// Bits less 1 of component c, and its sign as the top bit. They are a byte where the component is not ill.
+#[tactic(auto, unfolding(write_rules::specs::Setup::BPCi))]
+pub fn component_bits(comps: &[u32], c: u32) -> u64
+    ensures { result ≡ BPCi comps.now c }
 {
-    if is_ill(comps, c) {
-        return None;
-    }
-    Some(read_record::component(comps, c, PREC) - 1 + 128 * read_record::component(comps, c, SGND))
+    let precision = read_record::component(comps, c, PREC);
+    let sign = read_record::component(comps, c, SGND);
+    u64::from(precision.saturating_sub(1)) + SIGN_BIT * u64::from(sign)
 }
 
 // Whether some component has not as many bits as component 0.
@@ -64,7 +65,7 @@ fn bits_vary(r: &Request<'_>) -> bool
 }
 
 // What all components have, bits less 1 and the sign as top bit, or VARIES.
-#[tactic(auto, unfolding(write_rules::specs::Setup::BPC, box_number::specs::Table::table))]
+#[tactic(auto, using(write_rules::proofs::Bounds::depth_most), unfolding(write_rules::specs::Setup::BPC, box_number::specs::Table::table))]
 fn bits(r: &Request<'_>) -> u32
     requires { Says false (ill r.now.comps.now 0) }
     ensures { result ≡ BPC r.now.comps.now r.now.count }
@@ -72,7 +73,7 @@ fn bits(r: &Request<'_>) -> u32
     if bits_vary(r) {
         VARIES
     } else {
-        component_bits(r.comps, 0).unwrap()
+        component_bits(r.comps, 0) as u32
     }
 }
 

@@ -30,8 +30,9 @@ value_by s k looked v = table (flag looked ⇒ picked s k v ∣ otherwise v)
 abbrev pub samples_at : List ℕ → Column → Image → ℕ → Bool → List ℤ
 samples_at s k i r looked = map (value_by s k looked) (samples_of i.samples (first i r) (size i r))
 
--- a channel can be packed at a place: its column exists where it has one, its component's samples lie in their list, and there is room
+-- a channel can be packed at a place: the record of its component lies in its list, its column exists where it has one, its component's samples lie in theirs, and there is room
 pub record Packable (k : Column) (i : Image) (r : ℕ) (looked : Bool) (room at : ℕ) : Type 0 where
+  pub numbers : numbers_each * r + numbers_each ≤ length i.components
   pub column : looked ≡ true → Says false (no_column k)
   pub inside : (first i r ≡ no_data → ⊥) → first i r + size i r ≤ length i.samples
   pub fits : at + size i r ≤ room

@@ -26,11 +26,11 @@ returns-in-Past c = let a = c.args in file-read _ _ _ (c.read_past.ensures ∙ w
 pub read_whole-requires : goal.read_whole-requires
 read_whole-requires c = going_heads c.loop-found.invariant c.find_box.ensures c.in-Some.is c.in-Whole.is
 
-pub returns-in_err-k-in-Whole : goal.returns-in_err-k-in-Whole
-returns-in_err-k-in-Whole c =
+pub returns-in_err-read_whole-in-Whole : goal.returns-in_err-read_whole-in-Whole
+returns-in_err-read_whole-in-Whole c =
     let a = c.args in
     let p = err_from_is_err_and c.from_residual.result c.from_residual.ensures.1 in
-    rw (p.1, p.2) (file-read _ _ _ (walks a.s.now a.j (omega arith) (going_down c.loop-found.invariant c.find_box.ensures c.in-Some.is c.in-Whole.is c.in_err-k-in-Whole.ensures)))
+    rw (p.1, p.2) (file-read _ _ _ (walks a.s.now a.j (omega arith) (going_down c.loop-found.invariant c.find_box.ensures c.in-Some.is c.in-Whole.is c.in_err-read_whole-in-Whole.ensures)))
 
 pub slice_bounds-rest-start : goal.slice_bounds-rest-start
 slice_bounds-rest-start c = omega (arith, going_fits c.loop-found.invariant c.find_box.ensures c.in-Some.is c.in-Whole.is, c.next.ensures)
@@ -45,7 +45,7 @@ pub loop-found-smaller : goal.loop-found-smaller
 loop-found-smaller c = going_less c.loop-found.invariant c.find_box.ensures c.in-Some.is c.in-Whole.is c.next.ensures
 
 pub loop-found-preserved : goal.loop-found-preserved
-loop-found-preserved c = going_on c.loop-found.invariant c.find_box.ensures c.in-Some.is c.in-Whole.is c.in_ok-k-in-Whole.ensures c.next.ensures c.next-at.ensures
+loop-found-preserved c = going_on c.loop-found.invariant c.find_box.ensures c.in-Some.is c.in-Whole.is c.in_ok-read_whole-in-Whole.ensures c.next.ensures c.next-at.ensures
 
 pub returns : goal.returns
 returns c = let a = c.args in file-read _ _ _ (walks a.s.now a.j (omega arith) (going_none c.loop-found.invariant c.find_box.ensures c.in_default.is))

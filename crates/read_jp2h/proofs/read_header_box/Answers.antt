@@ -33,13 +33,13 @@ read_item-requires c =
     let h = here _ g (ap accepted (sym c.in-Some.is) ∙ c.in_ok-b.ensures) in
     (h.head, h.size, omega (arith, h.head, h.size, g.room))
 
-pub returns-in_err-k : goal.returns-in_err-k
-returns-in_err-k c =
+pub returns-in_err-read_item : goal.returns-in_err-read_item
+returns-in_err-read_item c =
     let a = c.args in
     let i = c.is_alone-alone.ensures in
     let f = box-begins a.ty a.at.place a.at.start a.c.now a.j _ i c.in_ok-admit.ensures in
     let h = here _ c.loop-b.invariant (ap accepted (sym c.in-Some.is) ∙ c.in_ok-b.ensures) in
-    passed_up _ _ c.from_residual-in_err-k.ensures.1 (box-stop a.ty a.at.place a.at.start a.c.now a.j _ i f c.opened-k.ensures (sym (going_stop h c.in_err-k.ensures)))
+    passed_up _ _ c.from_residual-in_err-read_item.ensures.1 (box-stop a.ty a.at.place a.at.start a.c.now a.j _ i f c.opened-k.ensures (sym (going_stop h c.in_err-read_item.ensures)))
 
 pub slice_bounds-rest-count : goal.slice_bounds-rest-count
 slice_bounds-rest-count c = omega (arith, (here _ c.loop-b.invariant (ap accepted (sym c.in-Some.is) ∙ c.in_ok-b.ensures)).size, c.next-size.ensures)
@@ -56,7 +56,7 @@ loop-b-smaller c = going_less _ c.loop-b.invariant (ap accepted (sym c.in-Some.i
 pub loop-b-preserved : goal.loop-b-preserved
 loop-b-preserved c =
     let h = here _ c.loop-b.invariant (ap accepted (sym c.in-Some.is) ∙ c.in_ok-b.ensures) in
-    going_on h c.in_ok-k.ensures c.next-size.ensures c.next-place.ensures c.still_lacks-lacks.ensures
+    going_on h c.in_ok-read_item.ensures c.next-size.ensures c.next-place.ensures c.still_lacks-lacks.ensures
 
 pub returns-then-lacks : goal.returns-then-lacks
 returns-then-lacks c =

@@ -1,21 +1,19 @@
-use native.Mathlib.Omega.{arith}
-use mathlib.Core.Path.{◌≡◌, refl, ap, ◌∙◌}
-use Rattle.read_palette.specs.Pclr.{entry_bytes, row_bytes}
-use Rattle.read_palette.proofs.Entries.{entry-most, row_next}
+use Rattle.std.proofs.Common.{ℕ, ◌+◌, ◌∙◌, arith, rules, tests}
+use Rattle.std.proofs.lemmas.Iterator.{YieldsList-from_range, YieldsList-from_map}
+use Rattle.std.proofs.lemmas.Iterator.Consumers.{sum_from_yields_List, fits_from_yields_list}
+use Rattle.box_number.specs.Number.{number}
+use Rattle.read_palette.specs.Pclr.{entry_bytes}
+use Rattle.read_palette.proofs.Entries.{row-sum, row-most}
 use Rattle.read_palette.proofs.row_bytes.Goals as goal
 
-pub loop-i-init : goal.loop-i-init
-unfolding row_bytes
-loop-i-init c = (omega arith, refl)
-
-pub overflow_add-sum : goal.overflow_add-sum
-overflow_add-sum c = omega (arith, entry-most c.read_u8.result)
-
-pub loop-i-preserved : goal.loop-i-preserved
-loop-i-preserved c =
-    let l = c.loop-i in
-    let a = c.args in
-    (omega (arith, entry-most c.read_u8.result), row_next a.s.now a.at l.i l.invariant.1 (c.entry_bytes-sum.ensures ∙ ap entry_bytes c.read_u8.ensures))
+pub sum-requires-clause-fits : goal.sum-requires-clause-fits
+sum-requires-clause-fits c = let a = c.args in
+    fits_from_yields_list c.map.result _
+    (YieldsList-from_map _ (λ (k : ℕ). entry_bytes (number a.s.now (a.at + k) 1)) (YieldsList-from_range 0 a.n a.n c.map.ensures.source (omega arith)) c.map.ensures.closure (λ x r q k. search (rules, tests)))
+    (omega (arith, row-sum a.s.now a.at a.n, row-most a.s.now a.at a.n))
 
 pub returns : goal.returns
-returns c = let l = c.loop-i in let a = c.args in let e : l.i ≡ a.n = omega arith in l.invariant.1 ∙ ap (row_bytes a.s.now a.at) e
+returns c = let a = c.args in
+    sum_from_yields_List c.map.result _ c.sum.ensures.ran
+    (YieldsList-from_map _ (λ (k : ℕ). entry_bytes (number a.s.now (a.at + k) 1)) (YieldsList-from_range 0 a.n a.n c.map.ensures.source (omega arith)) c.map.ensures.closure (λ x r q k. search (rules, tests)))
+    ∙ row-sum a.s.now a.at a.n

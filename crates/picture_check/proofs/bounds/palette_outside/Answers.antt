@@ -15,5 +15,5 @@ overflow_mul-entries c = omega (arith, rows-most _ _ _ c.args.p.entries (omega a
 pub overflow_add-columns : goal.overflow_add-columns
 overflow_add-columns c = omega (arith, rows-most _ _ _ c.args.p.entries (omega arith) (omega arith) c.row_bytes-row.ensures)
 
-pub returns : goal.returns
-returns c = let a = c.args in let e = rows-file a.f.now a.p.place a.p.columns a.p.entries c.part.ensures c.row_bytes-row.ensures in c.lies_outside.ensures ∙ same (lies_outside (length a.f.now) a.p.place (a.p.columns + a.p.entries * c.row_bytes-row.result)) (palette_outside c.args.f.now c.args.p) (λ h. omega arith) (λ h. omega arith)
+pub returns-else-columns-gt-MOST_COLUMNS : goal.returns-else-columns-gt-MOST_COLUMNS
+returns-else-columns-gt-MOST_COLUMNS c = let a = c.args in let e = rows-file a.f.now a.p.place a.p.columns a.p.entries c.part-s.ensures c.row_bytes-row.ensures in c.lies_outside.ensures ∙ same (lies_outside (length a.f.now) a.p.place (a.p.columns + a.p.entries * c.row_bytes-row.result)) (palette_outside c.args.f.now c.args.p) (λ h. omega arith) (λ h. omega arith)

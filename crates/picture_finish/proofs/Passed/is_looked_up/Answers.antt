@@ -1,8 +1,8 @@
 use Prim.Native.Nat.{◌+◌, ◌*◌}
 use native.Mathlib.Omega.{arith}
 use mathlib.Core.Path.{◌≡◌, refl, sym, ap, ◌∙◌}
-use mathlib.Core.Bool.{true, false}
-use Rattle.box_number.specs.Table.{◌=?◌, flag}
+use mathlib.Core.Bool.{true, false, not}
+use Rattle.box_number.specs.Table.{◌=?◌, flag, holds}
 use Rattle.box_number.specs.Number.{number}
 use Rattle.box_number.proofs.Rows.{row, shown}
 use Rattle.picture_rules.specs.Channels.{type_by}
@@ -13,16 +13,16 @@ pub returns-then-self : goal.returns-then-self
 returns-then-self c = let a = c.args in
     let o = a.self.now in
     let e : 1 ≡ type_by o.f.now o.m.lists.cmap (flag o.checked.corrected) a.c = row 0 _ c.if-self.true refl in
-    sym (shown true (type_by o.f.now o.m.lists.cmap (flag o.checked.corrected) a.c =? 1) (sym e))
+    c.if-self.true ∙ sym (shown true (type_by o.f.now o.m.lists.cmap (flag o.checked.corrected) a.c =? 1) (sym e))
 
-pub returns-then-l-eq0 : goal.returns-then-l-eq0
-returns-then-l-eq0 c = let a = c.args in
+pub returns-else-l-ne0 : goal.returns-else-l-ne0
+returns-else-l-ne0 c = let a = c.args in
     let o = a.self.now in
     let e : 0 ≡ type_by o.f.now o.m.lists.cmap (flag o.checked.corrected) a.c = row 2 _ (c.if-self.false, (omega arith, tt)) refl in
-    sym (shown false (type_by o.f.now o.m.lists.cmap (flag o.checked.corrected) a.c =? 1) (λ one. omega (arith, e, one)))
+    ap (λ n. not (holds (n =? 0))) c.if-l-ne0.false ∙ sym (shown false (type_by o.f.now o.m.lists.cmap (flag o.checked.corrected) a.c =? 1) (λ one. omega (arith, e, one)))
 
-pub returns : goal.returns
-returns c = let a = c.args in
+pub returns-then-l-ne0 : goal.returns-then-l-ne0
+returns-then-l-ne0 c = let a = c.args in
     let o = a.self.now in
     let at : o.m.lists.cmap.place + (4 * a.c + 2) ≡ o.m.lists.cmap.place + 4 * a.c + 2 = omega arith in
     let e : c.read_u8.result ≡ type_by o.f.now o.m.lists.cmap (flag o.checked.corrected) a.c =
