@@ -4,19 +4,14 @@ use read_record::{Palette, Span};
 
 impl<P: Print> Report<'_, P> {
     // A list with the text before it. For people an empty list is not printed.
-    pub(crate) fn list<F: Fn(usize, &[u8])>(
-        &self,
-        people: &str,
-        json: &str,
-        size: usize,
-        list: Span,
-        show: F,
-    )
+    pub(crate) fn list<F: Fn(usize, &[u8])>(&self, head: &[u8], size: usize, list: Span, show: F)
         requires { F.IsAlwaysCallable show }
     {
-        self.say(if list.count == 0 { "" } else { people }, json);
+        if self.json || list.count != 0 {
+            self.say(head);
+        }
         self.items(self.from(list.place), size, list.count, show);
-        self.say("", "]")
+        self.say(b"|]")
     }
 
     // The bytes of the file from a place on.
@@ -31,7 +26,9 @@ impl<P: Print> Report<'_, P> {
         let mut rest = c;
         for i in 0..n {
             let (item, after) = rest.split_at(size.min(rest.len()));
-            self.say("", if i == 0 { "" } else { "," });
+            if i != 0 {
+                self.say(b"|,");
+            }
             show(i, item);
             rest = after;
         }
@@ -56,8 +53,8 @@ impl<P: Print> Report<'_, P> {
     }
 
     fn entry(&self, i: usize, depths: &[u8], c: &[u8]) {
-        self.say(format_args!("\n    entry {i}: "), "[");
+        self.fill(b"\n    entry #: |[", &[i]);
         self.row(depths, c);
-        self.say("", "]")
+        self.say(b"|]")
     }
 }

@@ -1,4 +1,6 @@
 // A file by its name, into the room that is lent. Where that fails, standard error has a line with the name and the reason.
+ghost use Rattle.std.specs.Prelude.{◌≤◌, length, IfOk};
+
 use crate::{ROOM, quote};
 use std::fs::File;
 use std::io::{Cursor, Read, Write};
@@ -56,14 +58,18 @@ pub(crate) fn load<'a, R: Files>(
     rt: &R,
     name: &[u8],
     room: &'a mut [u8],
-) -> Result<&'a [u8], Failure> {
+) -> Result<&'a [u8], Failure>
+    ensures { IfOk result (λ f. length f.now ≤ length room.old) }
+{
     let path = str::from_utf8(name).map_err(|_| Failure::NameNotUtf8)?;
     let mut file = File::open(rt, path)?;
     read(&mut file, room)
 }
 
 // After the last byte one more read distinguishes the file's end from a failure, as with a folder, and from a file that is too large.
-fn read<'a>(file: &mut impl Read, room: &'a mut [u8]) -> Result<&'a [u8], Failure> {
+fn read<'a>(file: &mut impl Read, room: &'a mut [u8]) -> Result<&'a [u8], Failure>
+    ensures { IfOk result (λ f. length f.now ≤ length room.old) }
+{
     let n = text::input::read_full(file, room);
     let mut more = [0u8; 1];
     if file.read(&mut more)? > 0 {

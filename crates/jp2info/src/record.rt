@@ -1,6 +1,5 @@
 // What is said of a file: for people its name, then a field a line, a line's end before the next line; or one line of JSON.
 // In JSON a box that the record has nothing of is null, and a list without items is empty. Numbers are as in the file.
-use crate::items::Depth;
 use crate::say::Report;
 use box_refusal::{Cause, Refusal};
 use read_record::{Colour, FileType, Image, Jp2, Lab, Palette, Span};
@@ -14,13 +13,13 @@ impl<P: Print> Report<'_, P> {
         name: &[u8],
         reading: Result<Reading, Refusal<u32>>,
     ) -> io::Result<()> {
-        self.say("", "{\"file\":\"");
+        self.say(b"|{\"file\":\"");
         self.quoted(name);
         match reading {
             Ok(reading) => self.read(reading),
             Err(refusal) => self.refused(refusal),
         }
-        self.write("\n", "}\n")
+        self.write(b"\n|}\n")
     }
 
     // Where reading ended comes before the record in JSON, and after it for people.
@@ -37,27 +36,23 @@ impl<P: Print> Report<'_, P> {
 
     fn end(&self, end: FileEnd) {
         match end {
-            FileEnd::Codestream(offset) => self.say(
-                format_args!("\n  codestream: at {offset}"),
-                format_args!("\",\"answer\":\"codestream\",\"codestream\":{offset}"),
+            FileEnd::Codestream(offset) => self.fill(
+                b"\n  codestream: at #|\",\"answer\":\"codestream\",\"codestream\":#",
+                &[offset as usize],
             ),
             FileEnd::Ended => self.say(
-                "\n  codestream: none, ended",
-                "\",\"answer\":\"ended\",\"codestream\":null",
+                b"\n  codestream: none, ended|\",\"answer\":\"ended\",\"codestream\":null",
             ),
         }
     }
 
     fn refused(&self, refusal: Refusal<u32>) {
-        let number = refusal.cause.number();
-        let cause = words(refusal.cause);
-        let place = refusal.place;
-        self.say(
-            format_args!("\n  refused: {number}, {cause}, box at {place}"),
-            format_args!(
-                "\",\"answer\":\"refused\",\"number\":{number},\"cause\":\"{cause}\",\"place\":{place}"
-            ),
-        )
+        self.fill(
+            b"\n  refused: #, |\",\"answer\":\"refused\",\"number\":#,\"cause\":\"",
+            &[refusal.cause.number() as usize],
+        );
+        self.word(words(refusal.cause));
+        self.fill(b", box at #|\",\"place\":#", &[refusal.place as usize])
     }
 
     fn record(&self, jp2: Jp2) {
@@ -65,8 +60,7 @@ impl<P: Print> Report<'_, P> {
         self.filetype(jp2.filetype, l.cl);
         self.image(jp2.image);
         self.list(
-            "\n  BPCC:",
-            ",\"bpcc\":[",
+            b"\n  BPCC:|,\"bpcc\":[",
             1,
             l.bpcc,
             |i, c| self.component(i, c),
@@ -74,15 +68,13 @@ impl<P: Print> Report<'_, P> {
         self.colour(jp2.colour, l.icc);
         self.pclr(l.pclr);
         self.list(
-            "\n  cmap:",
-            ",\"cmap\":[",
+            b"\n  cmap:|,\"cmap\":[",
             4,
             l.cmap,
             |i, c| self.mapping(i, c),
         );
         self.list(
-            "\n  cdef:",
-            ",\"cdef\":[",
+            b"\n  cdef:|,\"cdef\":[",
             6,
             l.cdef,
             |_, c| self.definition(c),
@@ -92,17 +84,13 @@ impl<P: Print> Report<'_, P> {
     // Where brand, version and list are 0, there was no ftyp box, or one of zeros.
     fn filetype(&self, t: FileType, cl: Span) {
         if cl.count == 0 && t.brand == 0 && t.minversion == 0 {
-            return self.say("\n  ftyp: none", ",\"ftyp\":null");
+            return self.say(b"\n  ftyp: none|,\"ftyp\":null");
         }
-        let version = t.minversion;
-        self.say("\n  BR:", ",\"ftyp\":{\"BR\":");
+        self.say(b"\n  BR:|,\"ftyp\":{\"BR\":");
         self.code(&t.brand.to_be_bytes());
-        self.say(
-            format_args!("\n  MinV: {version}\n  CL:"),
-            format_args!(",\"MinV\":{version}"),
-        );
-        self.list("", ",\"CL\":[", 4, cl, |_, c| self.code(c));
-        self.say("", "}")
+        self.fill(b"\n  MinV: #\n  CL:|,\"MinV\":#", &[t.minversion as usize]);
+        self.list(b"|,\"CL\":[", 4, cl, |_, c| self.code(c));
+        self.say(b"|}")
     }
 
     fn image(&self, image: Image) {
@@ -116,67 +104,71 @@ impl<P: Print> Report<'_, P> {
             ipr,
         } = image;
         if numcomps == 0 {
-            return self.say("\n  ihdr: none", ",\"ihdr\":null");
+            return self.say(b"\n  ihdr: none|,\"ihdr\":null");
         }
-        self.say(
-            format_args!("\n  HEIGHT: {h}\n  WIDTH: {w}\n  NC: {numcomps}\n  BPC: {bpc} ("),
-            format_args!(
-                ",\"ihdr\":{{\"HEIGHT\":{h},\"WIDTH\":{w},\"NC\":{numcomps},\"BPC\":{bpc}"
-            ),
+        self.fill(
+            b"\n  HEIGHT: #\n  WIDTH: #\n  NC: #\n  BPC: # (|,\"ihdr\":{\"HEIGHT\":#,\"WIDTH\":#,\"NC\":#,\"BPC\":#",
+            &[h as usize, w as usize, numcomps as usize, bpc as usize],
         );
         if bpc == 255 {
-            self.say("the components differ)", "");
+            self.note("the components differ)");
         } else {
-            self.say(format_args!("{})", Depth(bpc)), "");
+            self.depth(bpc as usize);
         }
-        self.say(
-            format_args!("\n  C: {c}\n  UnkC: {unkc}\n  IPR: {ipr}"),
-            format_args!(",\"C\":{c},\"UnkC\":{unkc},\"IPR\":{ipr}}}"),
+        self.fill(
+            b"\n  C: #\n  UnkC: #\n  IPR: #|,\"C\":#,\"UnkC\":#,\"IPR\":#}",
+            &[c as usize, unkc as usize, ipr as usize],
         )
     }
 
     // Where all that every method has is 0, there was no colr box, or one of zeros.
     fn colour(&self, colour: Colour, icc: Span) {
-        let meth = colour.meth;
-        let precedence = colour.precedence;
-        let approx = colour.approx;
+        let Colour {
+            meth,
+            precedence,
+            approx,
+            ..
+        } = colour;
         if colour.held == 0 && meth == 0 && precedence == 0 && approx == 0 {
-            return self.say("\n  colr: none", ",\"colr\":null");
+            return self.say(b"\n  colr: none|,\"colr\":null");
         }
-        let method = match meth {
+        self.fill(b"\n  METH: # (|,\"colr\":{\"METH\":#", &[meth as usize]);
+        self.note(match meth {
             1 => "enumerated colour space",
             2 => "ICC profile",
             _ => "unknown",
-        };
-        self.say(
-            format_args!("\n  METH: {meth} ({method})\n  PREC: {precedence}\n  APPROX: {approx}"),
-            format_args!(",\"colr\":{{\"METH\":{meth},\"PREC\":{precedence},\"APPROX\":{approx}"),
+        });
+        self.fill(
+            b")\n  PREC: #\n  APPROX: #|,\"PREC\":#,\"APPROX\":#",
+            &[precedence as usize, approx as usize],
         );
         match meth {
             1 => self.enumerated(colour),
             2 => self.profile(icc),
             _ => {}
         }
-        self.say("", "}")
+        self.say(b"|}")
     }
 
     // For people the size comes first.
     fn profile(&self, icc: Span) {
-        let place = icc.place;
         let size = icc.count;
-        self.say(
-            format_args!("\n  PROFILE: {size} bytes at {place}"),
-            format_args!(",\"PROFILE\":{{\"place\":{place},\"size\":{size}}}"),
-        )
+        self.fill(
+            b"\n  PROFILE: # bytes at |,\"PROFILE\":{\"place\":",
+            &[size],
+        );
+        self.fill(b"#|#", &[icc.place]);
+        self.fill(b"|,\"size\":#}", &[size])
     }
 
     fn enumerated(&self, colour: Colour) {
         let enumcs = colour.enumcs;
-        let space = space(enumcs);
-        self.say(
-            format_args!("\n  EnumCS: {enumcs} ({space})"),
-            format_args!(",\"EnumCS\":{enumcs},\"space\":\"{space}\""),
+        self.fill(
+            b"\n  EnumCS: # (|,\"EnumCS\":#,\"space\":\"",
+            &[enumcs as usize],
         );
+        self.word(space(enumcs));
+        self.say(b")|\"");
         self.lab(colour.lab)
     }
 
@@ -187,25 +179,23 @@ impl<P: Print> Report<'_, P> {
         }
         let numbers = l.numbers;
         let n = numbers.len().min(l.count as usize);
-        self.say("\n  CIELab: ", ",\"CIELab\":[");
+        self.say(b"\n  CIELab: |,\"CIELab\":[");
         self.join(&numbers[..n]);
-        self.say("", "]")
+        self.say(b"|]")
     }
 
     fn pclr(&self, p: Palette) {
         if p.columns == 0 {
-            return self.say("", ",\"pclr\":null");
+            return self.say(b"|,\"pclr\":null");
         }
-        let entries = p.entries;
-        let columns = p.columns;
-        self.say(
-            format_args!("\n  pclr: NE {entries}, NPC {columns}"),
-            format_args!(",\"pclr\":{{\"NE\":{entries},\"NPC\":{columns},\"columns\":["),
+        self.fill(
+            b"\n  pclr: NE #, NPC #|,\"pclr\":{\"NE\":#,\"NPC\":#,\"columns\":[",
+            &[p.entries as usize, p.columns as usize],
         );
         self.columns(p);
-        self.say("", "],\"entries\":[");
+        self.say(b"|],\"entries\":[");
         self.entries(p);
-        self.say("", "]}")
+        self.say(b"|]}")
     }
 }
 
