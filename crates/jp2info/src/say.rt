@@ -42,9 +42,10 @@ impl<P: Print> Report<'_, P> {
         let _ = self.write(piece);
     }
 
-    // A piece in which each # is replaced by the next of the numbers. It has room: a form has fewer than 100 bytes and four numbers at most.
+    // A piece in which each # is replaced by the next of the numbers. It has room: a form has fewer than 60 bytes, and four numbers at most, of 20 digits at most.
+    // No longer list is taken, since each call fills it with zeros.
     pub(crate) fn fill(&self, piece: &[u8], numbers: &[usize]) {
-        let mut d = [0u8; 4096];
+        let mut d = [0u8; 256];
         let n = self.filled(&mut d, piece, numbers);
         let _ = self.rt.write_all(box_number::part(&d, 0, n));
     }
