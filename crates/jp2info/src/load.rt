@@ -1,5 +1,5 @@
 // A file by its name, into the room that is lent. Where that fails, standard error has a line with the name and the reason.
-ghost use Rattle.std.specs.Prelude.{◌≤◌, length, IfOk};
+ghost use Rattle.std.specs.Prelude.{◌≡◌, ◌≤◌, length, IfOk, IfSome};
 
 use crate::{ROOM, quote};
 use std::fs::File;
@@ -66,9 +66,10 @@ pub(crate) fn load<'a, R: Files>(
     read(&mut file, room)
 }
 
-// After the last byte one more read distinguishes the file's end from a failure, as with a folder, and from a file that is too large.
-fn read<'a>(file: &mut impl Read, room: &'a mut [u8]) -> Result<&'a [u8], Failure>
-    ensures { IfOk result (λ f. length f.now ≤ length room.old) }
+// The file whole: where it is known what the input has left, all of that. After the last byte one more read distinguishes the file's end from a failure, as with a folder, and from a file that is too large.
+fn read<'a, I: Read>(file: &mut I, room: &'a mut [u8]) -> Result<&'a [u8], Failure>
+    ensures lies { IfOk result (λ f. length f.now ≤ length room.old) }
+    ensures whole { IfOk result (λ f. IfSome (I.remaining file.old) (λ xs. f.now ≡ xs)) }
 {
     let n = text::input::read_full(file, room);
     let mut more = [0u8; 1];

@@ -1,12 +1,15 @@
 // Input that is read into a lent list.
-ghost use Rattle.std.specs.Prelude.{◌≡◌, ◌≤◌, length, All};
+ghost use Rattle.std.specs.Prelude.{◌≡◌, ◌≤◌, length, take, All};
+ghost use Rattle.std.specs.Io.KnownBytes.{Consumes};
 
 use std::io::Read;
 
-// Reads until d is full, the input ends or a read fails. Answers how many bytes were read; they are the first of d.
+// Reads until d is full, the input ends or a read fails. Answers how many bytes were read; they are the first of d. Where it is known what the input
+// has left (`remaining` of std's `Read`), these are the next bytes of it.
 // The loop stands here, since `read_exact` loses the count where the input ends early, and `read_to_end` allocates.
-pub fn read_full(input: &mut impl Read, d: &mut [u8]) -> usize
-    ensures { result ≤ length d.new }
+pub fn read_full<I: Read>(input: &mut I, d: &mut [u8]) -> usize
+    ensures within { result ≤ length d.new }
+    ensures bytes { Consumes (I.remaining input.old) (I.remaining input.new) (take result d.new) }
 {
     let mut n = 0;
     while n < d.len()
