@@ -1,7 +1,7 @@
 // Compares a picture's answer and destinations with the list. Prints the first difference.
 ghost use Rattle.std.specs.Prelude.{◌≡◌, ◌<◌, None, length};
 ghost use Rattle.box_number.specs.Table.{holds};
-ghost use Rattle.replay_picture.specs.Private.Compared.{first, answer_differs, element_differs, answer_length, count_of};
+ghost use Rattle.replay_picture.specs.Private.Compared.{first, answer_differs, element_differs, answer_length, count_of, slot_of};
 
 use crate::list;
 use crate::put::{self, Element};
@@ -11,6 +11,16 @@ use test_lines::{at, say};
 const ANSWER_LENGTH: usize = 4;
 
 const ANSWER_NUMBER: usize = 1;
+
+// The count of the tally for pictures that differ from the list.
+pub const DIFFERING: usize = 31;
+
+// The count of the tally for an outcome.
+pub(crate) fn slot(outcome: Option<usize>) -> usize
+    ensures { result ≡ slot_of outcome }
+{
+    outcome.unwrap_or(DIFFERING)
+}
 
 // The count of the tally for picture i: 0 or the number of the refusal, and none where it differs or the list has ended.
 pub(crate) fn outcome(

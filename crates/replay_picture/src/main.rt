@@ -2,6 +2,7 @@
 // The lists are made of the seed 1; oracle/README.md has their form ("The replay list").
 #![tactic(auto)]
 
+use compare::DIFFERING;
 use test_lines::{count, say};
 use text::input;
 
@@ -13,9 +14,6 @@ mod put;
 const EDITION_1: u32 = 0;
 
 const EDITION_2: u32 = 1;
-
-// The count of the tally for pictures that differ from the list.
-const DIFFERING: usize = 31;
 
 // The most elements of a given list, and of a destination for records.
 const MOST: usize = 128;
@@ -40,10 +38,7 @@ fn replay<'a>(rt: &impl Print, edition2: u32, list: &'a [u8], room: &mut [i32]) 
     // The loop of each replay program. What it calls is all that differs, so a shared one would take two closures and be no plainer.
     for i in 0..cases {
         let taken = list::bytes(rest);
-        count(
-            &mut tally,
-            case(rt, edition2, i, rest, room).unwrap_or(DIFFERING),
-        );
+        count(&mut tally, compare::slot(case(rt, edition2, i, rest, room)));
         rest = &rest[taken..];
     }
     say(rt, b"cases: #\n", &[cases as usize]);

@@ -1,9 +1,16 @@
 // Document 01's marked cases on order, definitions that are passed over, a channel defined twice and a case that is refused, each over a lent list of four component records, a line each: first in edition 1, then in edition 2. The records past a case's planes are left.
 #![tactic(auto)]
 
+ghost use Rattle.std.specs.Prelude.{◌≡◌};
+ghost use Rattle.box_refusal.specs.Told.{told};
+ghost use Rattle.picture_order.specs.Flat.{answered, afterwards};
+ghost use Rattle.picture_order.specs.Comps.{numbered};
+
+use box_refusal::Refusal;
 use picture_order::Definitions;
 use picture_order::lent::Comp;
 use read_record::Span;
+use test_lines::say;
 
 // The editions of the camera rules.
 const EDITION_1: u32 = 0;
@@ -125,7 +132,7 @@ fn comp(name: char) -> Comp {
     }
 }
 
-// Prints the case, what the reorder answers, and the planes and marks after it.
+// Prints the case, and what it makes of the four records.
 fn run(rt: &impl Print, edition2: u32, case: Case) {
     let mut cs = [comp('A'), comp('B'), comp('C'), comp('D')];
     let cdef = Span {
@@ -134,13 +141,33 @@ fn run(rt: &impl Print, edition2: u32, case: Case) {
     };
     let d = Definitions { cdef, edition2 };
     let _ = print!(rt; "{}", case.name);
-    let _ = match picture_order::lent::opj_jp2_apply_cdef(case.definitions, d, &mut cs, case.n) {
-        Ok(()) => print!(rt; " = done; planes"),
-        Err(r) => print!(rt; " = refused {} at {}; planes", r.cause.number(), r.place),
+    let _ = apply_four(rt, case.definitions, d, &mut cs, case.n);
+}
+
+// Prints what the reorder answers, and the planes and marks after it. Gives the answer.
+fn apply_four(
+    rt: &impl Print,
+    f: &[u8],
+    d: Definitions,
+    cs: &mut [Comp; 4],
+    n: u32,
+) -> Result<(), Refusal<u32>>
+    ensures { (told result ≡ answered f.now d.cdef n (numbered cs.old)) × (numbered cs.new ≡ afterwards d.edition2 f.now d.cdef n (numbered cs.old)) }
+{
+    let answer = picture_order::lent::opj_jp2_apply_cdef(f, d, cs, n);
+    match answer {
+        Ok(()) => say(rt, b" = done; planes", &[]),
+        Err(r) => say(
+            rt,
+            b" = refused # at #; planes",
+            &[r.cause.number() as usize, r.place as usize],
+        ),
     };
-    for c in cs {
+    for c in *cs {
         let name = char::from_u32(c.data).unwrap_or('?');
-        let _ = print!(rt; " {name} marked {}", c.alpha);
+        let _ = print!(rt; " {name}");
+        say(rt, b" marked #", &[c.alpha as usize]);
     }
     let _ = println!(rt;);
+    answer
 }

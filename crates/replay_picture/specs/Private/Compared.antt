@@ -34,3 +34,12 @@ count_of p answer records planes =
     ∣ some (element_differs (λ n. n) (records_of p) records) (length records) ⇒ None
     ∣ some (element_differs (of_z w32) (numbers_of (planes_of p)) planes) (length planes) ⇒ None
     ∣ otherwise (Some (get_or answer answer_position 0)))
+
+-- the count of the tally for pictures that differ
+abbrev pub differing : ℕ
+differing = 31
+
+-- the count of the tally for such an outcome
+abbrev pub slot_of : Option ℕ → ℕ
+slot_of None = differing
+slot_of (Some n) = n

@@ -1,0 +1,2 @@
+-- Terms of the contracts of private functions. No public contract names them.
+pub mod Twice
