@@ -45,8 +45,8 @@
  * needed length as its place: of `records` first, then of `planes` once `records` is long enough. Elements behind what
  * was written stay as they were.
  *
- * Threads. The library has no state: no variable outlives a call, nothing is allocated, and nothing but memmove and memset is
- * called. Any number of threads may call at once, with lists of their own.
+ * Threads. The library has no state: no variable outlives a call, nothing is allocated, and nothing but memset is called.
+ * Any number of threads may call at once, with lists of their own.
  *
  * Stack. cuzhantir_finish and cuzhantir_picture work in lists on the stack. How long these are depends on the number of
  * channels: the columns of a mapped palette, else the components. CUZHANTIR_STACK_FINISH_64 bounds what the two take for at

@@ -2,6 +2,7 @@
 #![tactic(auto)]
 
 ghost use Rattle.std.specs.Prelude.{ℕ, ◌+◌, ◌*◌, ◌≤◌, ◌<◌, ◌≡◌, false, length, IsTrue};
+ghost use Rattle.box_number.specs.Number.{placed};
 ghost use Rattle.box_number.specs.Table.{◌≠?◌, ◌and◌, holds, Says};
 ghost use Rattle.box_refusal.specs.Told.{told};
 ghost use Rattle.write_rules.specs.Request.{asked};
@@ -95,9 +96,18 @@ impl Writer<'_> {
         requires { HasRoom self.old (length src.now) }
         ensures { Puts self.old self.new src.now (length src.now) }
     {
-        let end = self.at + src.len();
-        self.d[self.at..end].copy_from_slice(src);
-        self.at = end;
+        copy(src, self.d, self.at);
+        self.at += src.len();
+    }
+}
+
+// Copies src to a place of d. A loop: `copy_from_slice` is a call of memmove, which a caller without a C library would have to bring (docs/DECISIONS.md, 103).
+fn copy(src: &[u8], d: &mut [u8], at: usize)
+    requires { at + length src.now ≤ length d.old }
+    ensures { d.new ≡ placed d.old at src.now }
+{
+    for k in 0..src.len() {
+        d[at + k] = src[k];
     }
 }
 
