@@ -1,9 +1,9 @@
 // The header of a box (`Jp2BoxHeader` of jp2.rs).
 #![tactic(auto)]
 
-ghost use Rattle.std.specs.Prelude.{◌+◌, ◌-◌, ◌≡◌};
+ghost use Rattle.std.specs.Prelude.{◌+◌, ◌-◌, ◌≤◌, ◌≡◌, length};
 ghost use Rattle.box_kind.specs.Kind.{number_of};
-ghost use Rattle.box_header.specs.Box.{header, child_header, new_header, fits_header, with_header};
+ghost use Rattle.box_header.specs.Box.{LBox, header, child_header, new_header, fits_header, with_header};
 
 use box_kind::Jp2BoxType;
 
@@ -49,9 +49,17 @@ impl Jp2BoxHeader {
         if c.len() < 8 {
             return Err(NoHeader::Cut);
         }
-        let lbox = box_number::read_u32(c, 0);
+        Self::with_lbox(c, box_number::read_u32(c, 0))
+    }
+
+    // The same, of 8 bytes or more, whose LBox was read.
+    #[inline(always)]
+    fn with_lbox(c: &[u8], stated: u32) -> Result<Self, NoHeader>
+        requires { (8 ≤ length c.now) × (stated ≡ LBox c.now) }
+        ensures { result ≡ header c.now }
+    {
         let ty = Jp2BoxType::from(box_number::read_u32(c, 4));
-        if lbox == 0 {
+        if stated == 0 {
             if LARGEST < c.len() {
                 return Err(NoHeader::HighWord);
             }
@@ -61,7 +69,7 @@ impl Jp2BoxHeader {
                 header_length: 8,
             });
         }
-        if lbox == 1 {
+        if stated == 1 {
             if c.len() < 16 {
                 return Err(NoHeader::Cut);
             }
@@ -77,7 +85,7 @@ impl Jp2BoxHeader {
             });
         }
         Ok(Jp2BoxHeader {
-            length: lbox,
+            length: stated,
             ty,
             header_length: 8,
         })
@@ -90,10 +98,11 @@ impl Jp2BoxHeader {
         if c.len() < 8 {
             return Jp2BoxHeader::from_stream(c);
         }
-        if box_number::read_u32(c, 0) == 0 {
+        let lbox = box_number::read_u32(c, 0);
+        if lbox == 0 {
             return Err(NoHeader::LengthZero);
         }
-        Jp2BoxHeader::from_stream(c)
+        Self::with_lbox(c, lbox)
     }
 
     // Length and kind, 8 bytes, to a place of d; whether they had room there. The list and the place are two parameters, as in `opj_write_bytes`.

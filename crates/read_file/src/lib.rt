@@ -106,8 +106,7 @@ fn read_header(ty: Jp2BoxType, c: &[u8], at: At, k: &mut Jp2) -> Result<(), Refu
         skip(k);
         return Ok(());
     }
-    *k = read_jp2h::read_header_box(ty, c, at, *k)?;
-    Ok(())
+    read_jp2h::take_header_box(ty, c, at, k)
 }
 
 // Reads the content of a box of the file by the reader of its kind. jp2h and the boxes that belong into it have one arm: read_jp2h says why.

@@ -7,11 +7,13 @@ ghost use Rattle.box_refusal.specs.Told.{told};
 ghost use Rattle.box_kind.specs.Kind.{◌is◌};
 ghost use Rattle.box_kind.specs.declared.Jp2BoxType.TheVariants.{IHDR, JP2H};
 ghost use Rattle.box_header.specs.Box.{largest};
-ghost use Rattle.read_record.specs.Lent.{leaves};
+ghost use Rattle.read_record.specs.Lent.{leaves, Lent};
 ghost use Rattle.read_jp2h.specs.Child.{reader};
 ghost use Rattle.read_jp2h.specs.Jp2h.{jp2h_alone};
 ghost use Rattle.read_jp2h.specs.HeaderBox.{header_box};
 ghost use Rattle.read_jp2h.specs.Private.Step.{next_child, next, read_item, admitted, opened, closed};
+
+mod fills;
 
 use box_header::{Jp2BoxHeader, LARGEST};
 use box_kind::Jp2BoxType;
@@ -23,15 +25,17 @@ fn read_content(ty: Jp2BoxType, c: &[u8], at: At, k: &mut Jp2) -> Result<(), Ref
     ensures { leaves result k.new ≡ reader ty at.place at.start c.now k.old }
 {
     match ty {
-        Jp2BoxType::IHDR => *k = read_image::opj_jp2_read_ihdr(c, at, *k)?,
-        Jp2BoxType::BPCC => *k = read_image::opj_jp2_read_bpcc(c, at, *k)?,
-        Jp2BoxType::COLR => *k = read_colour::opj_jp2_read_colr(c, at, *k)?,
-        Jp2BoxType::PCLR => *k = read_palette::opj_jp2_read_pclr(c, at, *k)?,
-        Jp2BoxType::CMAP => *k = read_channels::opj_jp2_read_cmap(c, at, *k)?,
-        Jp2BoxType::CDEF => *k = read_channels::opj_jp2_read_cdef(c, at, *k)?,
-        _ => k.status.imgstate = read_record::unknown(k.status.imgstate),
+        Jp2BoxType::IHDR => fills::fill_ihdr(c, at, k),
+        Jp2BoxType::BPCC => fills::fill_bpcc(c, at, k),
+        Jp2BoxType::COLR => fills::fill_colr(c, at, k),
+        Jp2BoxType::PCLR => fills::fill_pclr(c, at, k),
+        Jp2BoxType::CMAP => fills::fill_cmap(c, at, k),
+        Jp2BoxType::CDEF => fills::fill_cdef(c, at, k),
+        _ => {
+            k.status.imgstate = read_record::unknown(k.status.imgstate);
+            Ok(())
+        }
     }
-    Ok(())
 }
 
 // A box to read: its place in the file, and its header. A box outside jp2h is read from its content alone, and has a header of no bytes here.
@@ -153,13 +157,12 @@ fn is_alone(ty: Jp2BoxType) -> bool
 
 // Reads jp2h, or a box of another kind outside jp2h as a list of one. One loop serves both, so that the readers are chosen and called at one place.
 // With a second such call the compiler would keep the readers out of the loop, and copy the record for each box; to copy it takes longer than to read a small box (docs/DECISIONS.md, 69).
-pub fn read_header_box(ty: Jp2BoxType, c: &[u8], at: At, j: Jp2) -> Result<Jp2, Refusal<u32>>
-    ensures { told result ≡ header_box ty at.place at.start c.now j }
+fn read_boxes(ty: Jp2BoxType, c: &[u8], at: At, k: &mut Jp2) -> Result<(), Refusal<u32>>
+    ensures { leaves result k.new ≡ header_box ty at.place at.start c.now k.old }
 {
     let alone = is_alone(ty);
-    admit(alone, c, at, j.status)?;
-    let mut k = j;
-    k.status = opened(alone, j.status);
+    admit(alone, c, at, k.status)?;
+    k.status = opened(alone, k.status);
     // No index: each turn takes a box off the front of what is left.
     // `lone` says whether a box that is read alone is still to be read.
     let mut lone = alone;
@@ -167,7 +170,7 @@ pub fn read_header_box(ty: Jp2BoxType, c: &[u8], at: At, j: Jp2) -> Result<Jp2, 
     let mut place = at.start;
     let mut lacks = !alone;
     while let Some(b) = find_next(lone, ty, at.place, rest, place)? {
-        read_item(b, rest, place, &mut k)?;
+        read_item(b, rest, place, k)?;
         let size = b.header.next(0);
         rest = &rest[size..];
         place = b.header.next(place) as u32;
@@ -178,6 +181,27 @@ pub fn read_header_box(ty: Jp2BoxType, c: &[u8], at: At, j: Jp2) -> Result<Jp2, 
         return Err(at.refused(Cause::NoImageHeader));
     }
     k.status = closed(alone, k.status);
+    Ok(())
+}
+
+// The same, and a refusal leaves the record as it was. Where the caller drops the record after a refusal, as the walk through a file does, the compiler keeps no copy.
+pub fn take_header_box(ty: Jp2BoxType, c: &[u8], at: At, k: &mut Jp2) -> Result<(), Refusal<u32>>
+    ensures { Lent result k.old k.new (header_box ty at.place at.start c.now k.old) }
+{
+    let j = *k;
+    let r = read_boxes(ty, c, at, k);
+    if r.is_err() {
+        *k = j;
+    }
+    r
+}
+
+// The same by value.
+pub fn read_header_box(ty: Jp2BoxType, c: &[u8], at: At, j: Jp2) -> Result<Jp2, Refusal<u32>>
+    ensures { told result ≡ header_box ty at.place at.start c.now j }
+{
+    let mut k = j;
+    take_header_box(ty, c, at, &mut k)?;
     Ok(k)
 }
 

@@ -8,10 +8,10 @@ pub returns-then-c-lt8 : goal.returns-then-c-lt8
 unfolding child_header
 returns-then-c-lt8 c = row 0 _ (omega arith) c.from_stream.ensures
 
-pub returns-then-read_u32-eq0 : goal.returns-then-read_u32-eq0
+pub returns-then-lbox-eq0 : goal.returns-then-lbox-eq0
 unfolding child_header
-returns-then-read_u32-eq0 c = row 1 _ (omega arith) refl
+returns-then-lbox-eq0 c = row 1 _ (omega arith) refl
 
 pub returns : goal.returns
 unfolding child_header
-returns c = row 2 _ (omega arith) c.from_stream-2.ensures
+returns c = row 2 _ (omega arith) c.with_lbox.ensures

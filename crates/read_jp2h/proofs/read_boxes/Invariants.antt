@@ -1,6 +1,6 @@
 use Rattle.read_jp2h.proofs.Going.{Going, turns}
 use Rattle.read_jp2h.proofs.Ways.{whole, lack}
-use Rattle.read_jp2h.proofs.read_header_box.Given as goal
+use Rattle.read_jp2h.proofs.read_boxes.Given as goal
 
 abbrev pub invariant-loop-b : goal.invariant-loop-b
 invariant-loop-b l = Going l.ty l.at.place (whole l.ty l.at.place l.at.start l.c l.initial.k l.alone) (lack l.at.start l.c l.alone) l.lone l.place l.rest l.lacks l.k
