@@ -59,28 +59,33 @@ fn main(rt: HostRuntime) {
 fn each_case(rt: &impl Print, list: &[u8], tally: &mut [usize]) -> u32 {
     let cases = box_number::read_u32(list, 0);
     let mut rest = box_number::part(list, 4, list.len());
+    // The rooms of all cases: each fills them anew.
+    let mut comps = [0u32; MOST];
+    let mut d = [0u8; MOST];
     // The loop of each replay program. What it calls is all that differs, so a shared one would take two closures and be no plainer.
     for i in 0..cases {
         let request = Request { i, rest };
         let taken = request.end().min(rest.len());
-        count(tally, case(rt, request).unwrap_or(DIFFERING));
+        count(
+            tally,
+            case(rt, request, &mut comps, &mut d).unwrap_or(DIFFERING),
+        );
         rest = &rest[taken..];
     }
     cases
 }
 
 // Writes a request. Gives the count of the tally for the answer, and none where it or the destination differs from the list.
-fn case(rt: &impl Print, request: Request) -> Option<usize> {
-    let mut comps = [0u32; MOST];
+fn case(rt: &impl Print, request: Request, comps: &mut [u32], d: &mut [u8]) -> Option<usize> {
+    let listed = request.components();
     for (k, n) in comps.iter_mut().enumerate() {
-        *n = box_number::read_u32(request.components(), k * 4);
+        *n = box_number::read_u32(listed, k * 4);
     }
-    let mut d = [0u8; MOST];
     for (k, b) in d.iter_mut().enumerate() {
         *b = pattern(k);
     }
     let mut answer = [0u64; ANSWER_LENGTH];
-    request.write(&comps, &mut d, &mut answer);
+    request.write(comps, d, &mut answer);
     if let Some(k) = request.first_number(&answer) {
         say(
             rt,
@@ -95,14 +100,14 @@ fn case(rt: &impl Print, request: Request) -> Option<usize> {
         return None;
     }
     let written = request.written();
-    if let Some(k) = first_byte(written, &d) {
+    if let Some(k) = first_byte(written, d) {
         say(
             rt,
             b"case #, byte #: #, and not #\n",
             &[
                 request.i as usize,
                 k,
-                usize::from(box_number::read_u8(&d, k)),
+                usize::from(box_number::read_u8(d, k)),
                 usize::from(wanted(written, k)),
             ],
         );
@@ -194,9 +199,12 @@ impl<'a> Request<'a> {
     }
 }
 
-// The first byte that differs, of those behind the destination too.
+// The first byte that differs, of those that are written or of those behind them.
 fn first_byte(written: &[u8], d: &[u8]) -> Option<usize> {
-    (0..d.len()).find(|k| d[*k] != wanted(written, *k))
+    let n = written.len().min(d.len());
+    (0..n)
+        .find(|k| d[*k] != written[*k])
+        .or_else(|| (n..d.len()).find(|k| d[*k] != pattern(*k)))
 }
 
 // The content that place i of the destination has to have: a written byte, or the one before writing.
